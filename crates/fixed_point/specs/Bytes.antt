@@ -1,0 +1,23 @@
+-- Numbers as bytes, the lowest byte first, and blocks framed by their length.
+use Rattle.std.specs.Prelude.{ℕ, ◌+◌, ℤ, List, ◌++◌, length}
+use Rattle.std.specs.Int.{w32, w64, w128, to_le_bytes, cast_unsigned}
+
+-- a number below 2^32 in four bytes, below 2^64 in eight, below 2^128 in sixteen
+abbrev pub bytes32 : ℕ → List ℕ
+bytes32 n = to_le_bytes w32 n
+
+abbrev pub bytes64 : ℕ → List ℕ
+bytes64 n = to_le_bytes w64 n
+
+abbrev pub bytes128 : ℕ → List ℕ
+bytes128 n = to_le_bytes w128 n
+
+-- a signed number in eight bytes, as its two's complement
+abbrev pub signed_bytes64 : ℤ → List ℕ
+signed_bytes64 z = bytes64 (cast_unsigned w64 z)
+
+-- a block: its name between frames of 8, then its contents between frames of their length
+unfoldable pub framed : List ℕ → List ℕ → List ℕ
+framed name contents =
+    let len = length contents in
+    bytes32 8 ++ name ++ bytes32 (len + 8) ++ bytes32 8 ++ bytes32 len ++ contents ++ bytes32 len
