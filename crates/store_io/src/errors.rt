@@ -6,25 +6,47 @@ ghost use Rattle.store_io.specs.declared.errors.ReadErr.TheVariants.{Memory as R
 
 use fixed_point::Memory;
 use std::alloc::{AllocError, AllocFailed};
+use thiserror::Error;
 
-#[derive(Clone, Copy, Debug, PartialEq, Eq)]
+/// What `length` answers where it has no length.
+#[derive(Clone, Copy, Debug, PartialEq, Eq, Error)]
 pub enum LenErr {
+    /// There is no file of this name.
+    #[error("absent")]
     Absent,
+    /// The count of faults rose.
+    #[error("failed")]
     Failed,
+    /// Want of memory.
+    #[error("out of memory")]
     Memory,
 }
 
-#[derive(Clone, Copy, Debug, PartialEq, Eq)]
+/// What every other call on files, and a write to a sink, answers where it isn't done.
+#[derive(Clone, Copy, Debug, PartialEq, Eq, Error)]
 pub enum IoErr {
+    /// The count of faults rose.
+    #[error("failed")]
     Failed,
+    /// Want of memory.
+    #[error("out of memory")]
     Memory,
 }
 
-#[derive(Clone, Copy, Debug, PartialEq, Eq)]
+/// What `read_whole` answers where it has no bytes.
+#[derive(Clone, Copy, Debug, PartialEq, Eq, Error)]
 pub enum ReadErr {
+    /// There is no file of this name.
+    #[error("absent")]
     Absent,
+    /// The count of faults rose.
+    #[error("failed")]
     Failed,
+    /// The file has `len` bytes, which is above the limit.
+    #[error("{len} bytes are too many")]
     TooLong { len: u64 },
+    /// Want of memory.
+    #[error("out of memory")]
     Memory,
 }
 

@@ -2,6 +2,8 @@
 #![tactic(auto)]
 
 mod errors;
+mod fault_plan;
+mod file_map;
 mod file_store;
 mod mem_store;
 mod pieces;

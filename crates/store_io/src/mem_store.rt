@@ -1,150 +1,53 @@
 // Files in memory, whose calls fail where a test wants it.
-ghost use Rattle.std.specs.Prelude.{◌≡◌, ◌+◌, ◌<◌, ◌≤◌, Bool, true, false, List, [], ◌∷◌, ◌++◌, length, slice_range, option_map, option_copied, Option, Some, None, IsSome, OnSome, OnOk, OnErr};
-ghost use Rattle.store_io.specs.Files.{bytes_of, ChangesOnly};
+ghost use Rattle.std.specs.Prelude.{◌≡◌, ◌⊎◌, ◌+◌, ◌≤◌, Bool, true, false, List, [], ◌∷◌, ◌++◌, length, take, slice_range, option_copied, Option, Some, None, IsSome, IsTrue, OnOk, OnErr, Ok, Err};
+ghost use Rattle.store_io.specs.Causes.{HasCause, io_failed, len_failed};
+ghost use Rattle.store_io.specs.Files.{bytes_of, ChangesOnly, HasRange, LengthAnswers, AppendsPart, kept_part};
 
+use crate::fault_plan::FaultPlan;
+use crate::file_map::{append_in, copy_from, put_in};
 use crate::{IoErr, LenErr, Store, Text};
 use fixed_point::Memory;
 use std::alloc::Global;
 use std::collections::BTreeMap;
 
-// A call that is to fail, by its number, and how many bytes an append then keeps.
-#[derive(Clone, Copy)]
-struct Planned {
-    call: u64,
-    kept: u64,
-}
-
-#[derive(Drop)]
-struct LastCall {
-    name: Text,
-    reads: bool,
-}
-
-// The calls so far, those that are to fail, and those that did.
-#[derive(Drop)]
-struct Calls {
-    planned: Vec<Planned>,
-    count: u64,
-    faults: u64,
-    last: Option<LastCall>,
-    ghost in_range: { faults ≤ count },
-}
-
-impl Calls {
-    ghost use Rattle.store_io.specs.MemStore.{call_of};
-
-    // Counts a call, and gives what it keeps if it is to fail.
-    fn begin(&mut self) -> Option<u64>
-        ensures faults { self.new.faults ≡ self.old.faults }
-        ensures last { self.new.last ≡ self.old.last }
-        ensures room { OnSome result (self.new.faults < self.new.count) }
-    {
-        if self.count == u64::MAX {
-            return None;
-        }
-        let call = self.count;
-        self.count += 1;
-        let found = self.planned.iter().rev().find(|p| p.call == call);
-        found.map(|p| p.kept)
-    }
-
-    // Notes that the call failed.
-    fn fail(&mut self, alloc: Global, name: &Text, reads: bool) -> Result<(), Memory>
-        requires { self.old.faults < self.old.count }
-        ensures ok { OnOk result ((self.new.faults ≡ self.old.faults + 1) × (call_of self.new.last ≡ Some (name.now, reads))) }
-        ensures err { OnErr result ((self.new.faults ≡ self.old.faults) × (self.new.last ≡ self.old.last)) }
-    {
-        let name = Text::from_bytes(alloc, name.bytes())?;
-        self.faults += 1;
-        self.last = Some(LastCall { name, reads });
-        Ok(())
-    }
-}
-
-ghost use Rattle.store_io.specs.MemStore.{files_in};
-
-// Puts a file in the place of any of this name.
-fn put_in(
-    alloc: Global,
-    files: &mut BTreeMap<Vec<u8>, Vec<u8>>,
-    name: &Text,
-    bytes: &[u8],
-) -> Result<(), Memory>
-    ensures ok { OnOk result (ChangesOnly (files_in files.old) (files_in files.new) name.now (Some bytes.now)) }
-    ensures err { OnErr result (files_in files.new ≡ files_in files.old) }
-{
-    let key = Vec::from_slice(alloc, name.bytes())?;
-    let bytes = Vec::from_slice(alloc, bytes)?;
-    files.insert(key, bytes)?;
-    Ok(())
-}
-
-// Puts bytes behind those of a file.
-fn append_in(
-    files: &mut BTreeMap<Vec<u8>, Vec<u8>>,
-    name: &Text,
-    bytes: &[u8],
-) -> Result<(), Memory>
-    requires { IsSome (files_in files.old name.now) }
-    ensures ok { OnOk result (ChangesOnly (files_in files.old) (files_in files.new) name.now
-        (Some (bytes_of (files_in files.old name.now) ++ bytes.now))) }
-    ensures err { OnErr result (ChangesOnly (files_in files.old) (files_in files.new) name.now
-        (Some (bytes_of (files_in files.old name.now)))) }
-{
-    match files.get_mut(name.bytes()) {
-        Some(file) => Ok(file.extend_from_slice(bytes)?),
-        None => unreachable!(),
-    }
-}
-
-// The bytes from a place on.
-fn copy_from(bytes: &[u8], at: u64, buf: &mut [u8])
-    requires { at + length buf.old ≤ length bytes.now }
-    ensures { buf.new ≡ slice_range bytes.now at (at + length buf.new) }
-{
-    let at = at as usize;
-    let end = at + buf.len();
-    buf.copy_from_slice(&bytes[at..end]);
-}
-
-/// Files in memory. They are always told.
+/// Files in memory. They are always told, and so is the call that failed last. The calls of `Store`
+/// are numbered from 0, and one fails only where `fail` named its number. The numbers end at
+/// 2^64 - 1, and a call with that number never fails.
 #[derive(Drop)]
 pub struct MemStore {
     alloc: Global,
     files: BTreeMap<Vec<u8>, Vec<u8>>,
     closed: Vec<Text>,
-    calls: Calls,
+    plan: FaultPlan,
 }
 
 impl MemStore {
-    ghost use Rattle.store_io.specs.MemStore.{files_in};
+    ghost use Rattle.store_io.specs.MemStore.{mem_files, IsNew, KeepsCalls, PlansOnly};
 
+    /// No file, and no call that is to fail.
     pub fn new(alloc: Global) -> MemStore
-        ensures { (q : List _) → files_in result.files q ≡ None }
+        ensures { IsNew result }
     {
         MemStore {
             alloc,
             files: BTreeMap::new(alloc),
             closed: Vec::new(alloc),
-            calls: Calls {
-                planned: Vec::new(alloc),
-                count: 0,
-                faults: 0,
-                last: None,
-            },
+            plan: FaultPlan::new(alloc),
         }
     }
 
     /// Puts a file in the place of any of this name. It isn't counted as a call.
     pub fn put(&mut self, name: &Text, bytes: &[u8]) -> Result<(), Memory>
-        ensures ok { OnOk result (ChangesOnly (files_in self.old.files) (files_in self.new.files) name.now (Some bytes.now)) }
-        ensures err { OnErr result (files_in self.new.files ≡ files_in self.old.files) }
+        ensures ok { OnOk result (ChangesOnly (mem_files self.old) (mem_files self.new) name.now (Some bytes.now)) }
+        ensures err { OnErr result (mem_files self.new ≡ mem_files self.old) }
+        ensures calls { KeepsCalls self.old self.new }
     {
         put_in(self.alloc, &mut self.files, name, bytes)
     }
 
+    /// The bytes of a file, or none where there is no such file.
     pub fn get(&self, name: &Text) -> Option<&[u8]>
-        ensures { option_copied result ≡ files_in self.now.files name.now }
+        ensures { option_copied result ≡ mem_files self.now name.now }
     {
         match self.files.get(name.bytes()) {
             Some(bytes) => Some(bytes.as_slice()),
@@ -152,32 +55,51 @@ impl MemStore {
         }
     }
 
-    /// Lets the trait call with this number fail, counted from 0. An append then keeps so many bytes.
-    /// The later of two entries for one call counts.
+    /// Lets the call of `Store` with this number fail, counted from 0. An append then keeps so many
+    /// bytes, or all where there are fewer. The later of two entries for one call counts.
     pub fn fail(&mut self, call: u64, kept: u64) -> Result<(), Memory>
-        ensures { files_in self.new.files ≡ files_in self.old.files }
+        ensures ok { OnOk result (PlansOnly self.old self.new call kept) }
+        ensures err_files { OnErr result (mem_files self.new ≡ mem_files self.old) }
+        ensures err_calls { OnErr result (KeepsCalls self.old self.new) }
     {
-        self.calls.planned.push(Planned { call, kept })?;
-        Ok(())
+        self.plan.plan(call, kept)
+    }
+}
+
+// What is kept of the bytes.
+fn first_part(bytes: &[u8], kept: Option<u64>) -> &[u8]
+    ensures { result.now ≡ kept_part kept bytes.now }
+{
+    match kept {
+        Some(kept) => &bytes[..bytes.len().min(kept as usize)],
+        None => bytes,
     }
 }
 
 impl Store for MemStore {
-    ghost use Rattle.store_io.specs.MemStore.{call_of, files_in};
+    ghost use Rattle.store_io.specs.MemStore.{mem_files, mem_closed, mem_faults, mem_last, failing, CountsCall};
 
     ghost tells = { λ _. true };
 
-    ghost file = { λ s. files_in s.files };
+    ghost file = { mem_files };
 
-    ghost closed = { λ s. s.closed.items };
+    ghost closed = { mem_closed };
 
-    ghost faults = { λ s. s.calls.faults };
+    ghost faults = { mem_faults };
 
-    ghost last = { λ s. call_of s.calls.last };
+    ghost last = { mem_last };
 
-    fn length(&mut self, name: &Text) -> Result<u64, LenErr> {
-        if self.calls.begin().is_some() {
-            self.calls.fail(self.alloc, name, true)?;
+    fn length(&mut self, name: &Text) -> Result<u64, LenErr>
+        ensures files { mem_files self.new ≡ mem_files self.old }
+        ensures closed { mem_closed self.new ≡ mem_closed self.old }
+        ensures answer { LengthAnswers (mem_files self.old name.now) result }
+        ensures cause { HasCause (len_failed result) (name.now, true)
+            (mem_faults self.old) (mem_faults self.new) (mem_last self.old) (mem_last self.new) }
+        ensures counts { CountsCall (len_failed result) self.old self.new }
+        ensures planned { IsSome (failing self.old) → (result ≡ Err LenErr.Failed) ⊎ (result ≡ Err LenErr.Memory) }
+    {
+        if self.plan.begin().is_some() {
+            self.plan.fail(self.alloc, name, true)?;
             return Err(LenErr::Failed);
         }
         match self.files.get(name.bytes()) {
@@ -186,9 +108,18 @@ impl Store for MemStore {
         }
     }
 
-    fn read_at(&mut self, name: &Text, at: u64, buf: &mut [u8]) -> Result<(), IoErr> {
-        if self.calls.begin().is_some() {
-            self.calls.fail(self.alloc, name, true)?;
+    fn read_at(&mut self, name: &Text, at: u64, buf: &mut [u8]) -> Result<(), IoErr>
+        requires { HasRange (mem_files self.old name.now) at (length buf.old) }
+        ensures files { mem_files self.new ≡ mem_files self.old }
+        ensures closed { mem_closed self.new ≡ mem_closed self.old }
+        ensures filled { OnOk result (buf.new ≡ slice_range (bytes_of (mem_files self.old name.now)) at (at + length buf.new)) }
+        ensures cause { HasCause (io_failed result) (name.now, true)
+            (mem_faults self.old) (mem_faults self.new) (mem_last self.old) (mem_last self.new) }
+        ensures counts { CountsCall (io_failed result) self.old self.new }
+        ensures planned { IsSome (failing self.old) → (result ≡ Err IoErr.Failed) ⊎ (result ≡ Err IoErr.Memory) }
+    {
+        if self.plan.begin().is_some() {
+            self.plan.fail(self.alloc, name, true)?;
             return Err(IoErr::Failed);
         }
         if let Some(bytes) = self.files.get(name.bytes()) {
@@ -197,29 +128,57 @@ impl Store for MemStore {
         Ok(())
     }
 
-    fn create(&mut self, name: &Text) -> Result<(), IoErr> {
-        if self.calls.begin().is_some() {
-            self.calls.fail(self.alloc, name, false)?;
+    fn create(&mut self, name: &Text) -> Result<(), IoErr>
+        ensures closed { mem_closed self.new ≡ mem_closed self.old }
+        ensures ok { OnOk result (ChangesOnly (mem_files self.old) (mem_files self.new) name.now (Some [])) }
+        ensures err { OnErr result (mem_files self.new ≡ mem_files self.old) }
+        ensures cause { HasCause (io_failed result) (name.now, false)
+            (mem_faults self.old) (mem_faults self.new) (mem_last self.old) (mem_last self.new) }
+        ensures counts { CountsCall (io_failed result) self.old self.new }
+        ensures planned { IsSome (failing self.old) → (result ≡ Err IoErr.Failed) ⊎ (result ≡ Err IoErr.Memory) }
+    {
+        if self.plan.begin().is_some() {
+            self.plan.fail(self.alloc, name, false)?;
             return Err(IoErr::Failed);
         }
         put_in(self.alloc, &mut self.files, name, &[])?;
         Ok(())
     }
 
-    fn append(&mut self, name: &Text, bytes: &[u8]) -> Result<(), IoErr> {
-        let fails = self.calls.begin();
-        let kept = fails.map_or(bytes.len(), |kept| bytes.len().min(kept as usize));
-        append_in(&mut self.files, name, &bytes[..kept])?;
+    fn append(&mut self, name: &Text, bytes: &[u8]) -> Result<(), IoErr>
+        requires { IsSome (mem_files self.old name.now) }
+        ensures closed { mem_closed self.new ≡ mem_closed self.old }
+        ensures ok { OnOk result (ChangesOnly (mem_files self.old) (mem_files self.new) name.now
+            (Some (bytes_of (mem_files self.old name.now) ++ bytes.now))) }
+        ensures err { OnErr result (AppendsPart (mem_files self.old) (mem_files self.new) name.now bytes.now) }
+        ensures failed { IsTrue (io_failed result) → ChangesOnly (mem_files self.old) (mem_files self.new) name.now
+            (Some (bytes_of (mem_files self.old name.now) ++ kept_part (failing self.old) bytes.now)) }
+        ensures cause { HasCause (io_failed result) (name.now, false)
+            (mem_faults self.old) (mem_faults self.new) (mem_last self.old) (mem_last self.new) }
+        ensures counts { CountsCall (io_failed result) self.old self.new }
+        ensures planned { IsSome (failing self.old) → (result ≡ Err IoErr.Failed) ⊎ (result ≡ Err IoErr.Memory) }
+    {
+        let fails = self.plan.begin();
+        append_in(&mut self.files, name, first_part(bytes, fails))?;
         if fails.is_some() {
-            self.calls.fail(self.alloc, name, false)?;
+            self.plan.fail(self.alloc, name, false)?;
             return Err(IoErr::Failed);
         }
         Ok(())
     }
 
-    fn close(&mut self, name: &Text) -> Result<(), IoErr> {
-        if self.calls.begin().is_some() {
-            self.calls.fail(self.alloc, name, false)?;
+    fn close(&mut self, name: &Text) -> Result<(), IoErr>
+        requires { IsSome (mem_files self.old name.now) }
+        ensures files { mem_files self.new ≡ mem_files self.old }
+        ensures ok { OnOk result (mem_closed self.new ≡ mem_closed self.old ++ name.now ∷ []) }
+        ensures err { OnErr result (mem_closed self.new ≡ mem_closed self.old) }
+        ensures cause { HasCause (io_failed result) (name.now, false)
+            (mem_faults self.old) (mem_faults self.new) (mem_last self.old) (mem_last self.new) }
+        ensures counts { CountsCall (io_failed result) self.old self.new }
+        ensures planned { IsSome (failing self.old) → (result ≡ Err IoErr.Failed) ⊎ (result ≡ Err IoErr.Memory) }
+    {
+        if self.plan.begin().is_some() {
+            self.plan.fail(self.alloc, name, false)?;
             return Err(IoErr::Failed);
         }
         let name = Text::from_bytes(self.alloc, name.bytes())?;
