@@ -1,2 +1,12 @@
 pub mod Bodies
 pub mod Setups
+pub mod Tables
+pub mod Scaling
+pub mod Nodes
+pub mod Moments
+pub mod OpeningRule
+pub mod Correction
+pub mod PairForce
+pub mod Covers
+pub mod Walks
+pub mod Force
