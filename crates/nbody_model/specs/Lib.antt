@@ -10,3 +10,9 @@ pub mod PairForce
 pub mod Covers
 pub mod Walks
 pub mod Force
+pub mod Factors
+pub mod Steps
+pub mod Evolve
+pub mod States
+pub mod Continue
+pub mod Session
