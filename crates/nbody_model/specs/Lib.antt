@@ -16,3 +16,6 @@ pub mod Evolve
 pub mod States
 pub mod Continue
 pub mod Session
+pub mod Fields
+pub mod Texts
+pub mod RestartText
