@@ -17,5 +17,7 @@ pub mod States
 pub mod Continue
 pub mod Session
 pub mod Fields
+pub mod Passes
 pub mod Texts
 pub mod RestartText
+pub mod Worked

@@ -52,10 +52,12 @@ drifted s ticks b =
     let mass = b.mass * 2 ^ s.velocity_shift in
     let from = b.motion.pos in
     let mom = b.motion.mom in
-    record b { motion = record {
-      pos = record { x = drifted_axis ticks mass from.x mom.x; y = drifted_axis ticks mass from.y mom.y; z = drifted_axis ticks mass from.z mom.z };
-      mom = mom;
-    } }
+    record b {
+      motion = record {
+        pos = record { x = drifted_axis ticks mass from.x mom.x; y = drifted_axis ticks mass from.y mom.y; z = drifted_axis ticks mass from.z mom.z };
+        mom = mom;
+      };
+    }
 
 -- all bodies, after those of P drifted
 abbrev pub drift : SetupData → List ℕ → ℕ → List BodyData → List BodyData

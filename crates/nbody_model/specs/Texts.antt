@@ -1,9 +1,11 @@
 -- The texts of a run: kick file, trace file, bin file and numbered names. Lines end with LF, numbers are decimal.
 -- All of them are this project's own.
-use Rattle.std.specs.Prelude.{ℕ, ◌-◌, List, [], ◌∷◌, ◌++◌, length, replicate, map, codes, decimal}
+use Rattle.std.specs.Prelude.{ℕ, ◌-◌, Bool, if◌then◌else◌, List, [], ◌∷◌, ◌++◌, length, replicate, map, codes, decimal}
 use Rattle.std.specs.List.{flat_map}
 use Rattle.std.specs.Fmt.{signed_decimal}
 use Rattle.fixed_point.specs.Bytes.{bytes32, bytes64}
+use Rattle.nbody_model.specs.Evolve.{is_empty}
+use Rattle.nbody_model.specs.States.{StateData}
 use Rattle.nbody_model.specs.declared.kicks.Record.{Record}
 use Rattle.nbody_model.specs.declared.field.Event.{Event}
 use Rattle.nbody_model.specs.declared.field.EventKind.{EventKind}
@@ -43,10 +45,18 @@ event_word Parts = codes "parts"
 -- an action of one rank names it once, a delivery names the sender and the receiver
 abbrev pub event_ranks : Event → List ℕ
 event_ranks e = elim e.kind [
-    | Build ↦ e.from ∷ [] | Walk ↦ e.from ∷ [] | Add ↦ e.from ∷ [] | Share ↦ e.from ∷ []
-    | Table ↦ e.from ∷ e.to ∷ [] | Ask ↦ e.from ∷ e.to ∷ [] | Reply ↦ e.from ∷ e.to ∷ [] | Sums ↦ e.from ∷ e.to ∷ []
-    | Want ↦ e.from ∷ e.to ∷ [] | Members ↦ e.from ∷ e.to ∷ [] | Parts ↦ e.from ∷ e.to ∷ []
-  ]
+  | Build ↦ e.from ∷ []
+  | Walk ↦ e.from ∷ []
+  | Add ↦ e.from ∷ []
+  | Share ↦ e.from ∷ []
+  | Table ↦ e.from ∷ e.to ∷ []
+  | Ask ↦ e.from ∷ e.to ∷ []
+  | Reply ↦ e.from ∷ e.to ∷ []
+  | Sums ↦ e.from ∷ e.to ∷ []
+  | Want ↦ e.from ∷ e.to ∷ []
+  | Members ↦ e.from ∷ e.to ∷ []
+  | Parts ↦ e.from ∷ e.to ∷ []
+]
 
 abbrev pub event_line : Event → List ℕ
 event_line e = line_of (event_word e.kind ∷ map decimal (event_ranks e ++ e.size ∷ []))
@@ -81,3 +91,10 @@ three_digits n = let digits = decimal n in replicate (3 - length digits) 48 ++ d
 -- the file of a number: the base, `_` and the number
 abbrev pub numbered : List ℕ → ℕ → List ℕ
 numbered base n = base ++ codes "_" ++ three_digits n
+
+-- what stands behind the names of the kick and the trace file: nothing in a run from tick 0, in a resumed one the base
+-- steps of its first state, and of a rest state the tick too
+abbrev pub name_end : Bool → StateData → List ℕ
+name_end resumed σ =
+    let steps = codes "_from_" ++ decimal σ.steps in
+    if resumed then (if is_empty σ.depths then steps else steps ++ codes "_at_" ++ decimal σ.tick) else []

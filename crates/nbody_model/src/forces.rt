@@ -6,9 +6,8 @@ ghost use Rattle.nbody_model.specs.Force.{forces};
 ghost use Rattle.nbody_model.specs.Covers.{opening_of, interactions};
 ghost use Rattle.nbody_model.specs.declared.field.Event.{Event};
 
-use fixed_point::Memory;
-
 use crate::{Body, Field};
+use fixed_point::Memory;
 
 /// What finds the forces among bodies. It stands for a setup and perhaps a table, and has further numbers such as how
 /// many ranks there are, which no call changes; and it goes on from call to call by a state, a list of numbers.

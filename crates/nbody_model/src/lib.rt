@@ -6,6 +6,7 @@ mod field;
 mod forces;
 mod kicks;
 mod setup;
+pub mod worked;
 
 pub use body::{Body, Motion};
 pub use field::{Event, EventKind, Field};
