@@ -1,6 +1,6 @@
 -- Numbers as bytes, the lowest byte first, and blocks framed by their length.
-use Rattle.std.specs.Prelude.{ℕ, ◌+◌, ℤ, List, ◌++◌, length}
-use Rattle.std.specs.Int.{w32, w64, w128, to_le_bytes, cast_unsigned}
+use Rattle.std.specs.Prelude.{ℕ, ◌+◌, ℤ, List, [], ◌∷◌, ◌++◌, length, slice_index}
+use Rattle.std.specs.Int.{w32, w64, w128, to_le_bytes, from_le_bytes, cast_unsigned, cast_signed}
 
 -- a number below 2^32 in four bytes, below 2^64 in eight, below 2^128 in sixteen
 abbrev pub bytes32 : ℕ → List ℕ
@@ -21,3 +21,17 @@ unfoldable pub framed : List ℕ → List ℕ → List ℕ
 framed name contents =
     let len = length contents in
     bytes32 8 ++ name ++ bytes32 (len + 8) ++ bytes32 8 ++ bytes32 len ++ contents ++ bytes32 len
+
+-- the number in four bytes, or in eight, from a place on, the lowest byte first
+unfoldable pub word32_at : List ℕ → ℕ → ℕ
+word32_at bytes at =
+    from_le_bytes w32 (slice_index bytes at ∷ slice_index bytes (at + 1) ∷ slice_index bytes (at + 2) ∷ slice_index bytes (at + 3) ∷ [])
+
+unfoldable pub word64_at : List ℕ → ℕ → ℕ
+word64_at bytes at =
+    from_le_bytes w64 (slice_index bytes at ∷ slice_index bytes (at + 1) ∷ slice_index bytes (at + 2) ∷ slice_index bytes (at + 3)
+    ∷ slice_index bytes (at + 4) ∷ slice_index bytes (at + 5) ∷ slice_index bytes (at + 6) ∷ slice_index bytes (at + 7) ∷ [])
+
+-- the signed number whose two's complement stands in eight bytes from a place on
+abbrev pub signed64_at : List ℕ → ℕ → ℤ
+signed64_at bytes at = cast_signed w64 (word64_at bytes at)

@@ -6,12 +6,14 @@ mod memory;
 mod momentum;
 mod quotient;
 mod root;
+mod words;
 
 pub use difference::wrap_diff;
 pub use memory::Memory;
 pub use momentum::scale_in_range;
 pub use quotient::{floor_div_mod, trunc_div};
 pub use root::isqrt;
+pub use words::{signed64, word32, word64};
 
 /// Three numbers, one for each axis.
 #[derive(Clone, Copy, Debug, PartialEq, Eq)]

@@ -1,5 +1,6 @@
 pub mod Bodies
 pub mod Setups
+pub mod SnapshotText
 pub mod Tables
 pub mod Scaling
 pub mod Nodes

@@ -1,0 +1,2 @@
+pub mod MotionLemmas
+pub mod RowLemmas

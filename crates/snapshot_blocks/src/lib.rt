@@ -1,0 +1,13 @@
+//! The blocks of a snapshot, each framed by its length.
+#![tactic(auto)]
+
+mod block;
+mod list;
+mod push;
+
+pub use block::{Block, BlockErr, BlockKind};
+pub use list::{framing_is_exact, list_blocks};
+pub use push::{close_block, open_block, push_block};
+
+#[cfg(test)]
+mod tests;
