@@ -1,6 +1,7 @@
 // What is read before anything is written.
 use crate::status::Status;
 use crate::unbuilt::{asks_unbuilt, two_at_one_position};
+use output_schedule::{OutputErr, read_outputs};
 use param_file::{ParamErr, ParamKind, Params, read_params};
 use particle_set::{BodySet, SetErr};
 use snap_file::{SnapErr, read_snapshot};
@@ -10,6 +11,9 @@ use store_io::{ReadErr, Store, Text, read_whole};
 
 /// The longest parameter file, in bytes.
 const LONGEST_PARAMETERS: u64 = 65_536;
+
+/// The longest output list, in bytes.
+const LONGEST_LIST: u64 = 1_048_576;
 
 /// The longest snapshot, in bytes.
 const LONGEST_SNAPSHOT: u64 = 268_435_456;
@@ -65,6 +69,33 @@ pub fn load_params<S: Store>(alloc: Global, store: &mut S, name: &Text) -> Resul
         return Err(Status::NotBuilt);
     }
     Ok(params)
+}
+
+fn refused_outputs(err: OutputErr) -> Status {
+    match err {
+        OutputErr::Memory => Status::Memory,
+        other => Status::Outputs(other),
+    }
+}
+
+fn read_list<S: Store>(alloc: Global, store: &mut S, name: &Text) -> Result<Vec<u64>, Status> {
+    let bytes = read_file(alloc, store, name, LONGEST_LIST)?;
+    match read_outputs(alloc, &bytes) {
+        Ok(outputs) => Ok(outputs),
+        Err(err) => Err(refused_outputs(err)),
+    }
+}
+
+/// Reads the listed times, none where no list is named.
+pub fn load_outputs<S: Store>(
+    alloc: Global,
+    store: &mut S,
+    params: &Params,
+) -> Result<Vec<u64>, Status> {
+    match &params.output_list_filename {
+        Some(name) => read_list(alloc, store, name),
+        None => Ok(Vec::new(alloc)),
+    }
 }
 
 /// Reads a snapshot whose bodies are at different positions.

@@ -3,15 +3,9 @@
 #![tactic(auto)]
 
 mod command;
-mod direct;
 mod inputs;
-mod leaf;
-mod numbers;
-mod session;
-mod shares;
 mod snap_texts;
 mod status;
-mod step;
 mod texts;
 mod top;
 mod unbuilt;

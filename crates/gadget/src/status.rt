@@ -1,4 +1,5 @@
 // How a command ended.
+use output_schedule::OutputErr;
 use param_file::ParamErr;
 use snap_file::SnapErr;
 use store_io::Text;
@@ -25,6 +26,7 @@ pub enum Status {
     },
     NotBuilt,
     Param(ParamErr),
+    Outputs(OutputErr),
     Snapshot(SnapErr),
     MomRange {
         tick: u64,
@@ -51,6 +53,7 @@ impl Status {
             Status::TooLong { .. } => 8,
             Status::NotBuilt => 9,
             Status::Param(_) => 10,
+            Status::Outputs(_) => 11,
             Status::Snapshot(_) => 13,
             Status::MomRange { .. } => 20,
             Status::StepRange { .. } => 21,

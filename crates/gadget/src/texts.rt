@@ -1,12 +1,12 @@
 // What is printed at the end.
-use crate::numbers::push_vector;
-use crate::session::Finished;
 use crate::snap_texts::{push_snap_err, push_spaced};
 use crate::status::Status;
 use fixed_point::Memory;
+use output_schedule::OutputErr;
 use param_file::{ParamErr, ParamKind};
+use run_session::Ended;
 use std::alloc::Global;
-use text_words::push_unsigned;
+use text_words::{push_number, push_unsigned};
 
 const USAGE: &[u8] = b"usage: gadget run PARAM RANKS | resume PARAM RESTART RANKS | check PARAM | show SNAP | make COUNT SEED NAME";
 
@@ -17,8 +17,17 @@ fn push_counted(line: &mut Vec<u8>, words: &[u8], n: u128) -> Result<(), Memory>
     push_unsigned(line, n)
 }
 
+// Three numbers, each after a space.
+fn push_vector(line: &mut Vec<u8>, v: &[i128; 3]) -> Result<(), Memory> {
+    for number in v {
+        line.push(b' ')?;
+        push_number(line, *number)?;
+    }
+    Ok(())
+}
+
 /// The line of a run that is done.
-pub fn done_line(alloc: Global, run: &Finished) -> Result<Vec<u8>, Memory> {
+pub fn done_line(alloc: Global, run: &Ended) -> Result<Vec<u8>, Memory> {
     let mut line = Vec::new(alloc);
     push_counted(&mut line, b"done tick", u128::from(run.tick))?;
     push_counted(&mut line, b" steps", u128::from(run.steps))?;
@@ -49,6 +58,19 @@ fn push_param_err(line: &mut Vec<u8>, err: &ParamErr) -> Result<(), Memory> {
     };
     line.extend_from_slice(words)?;
     Ok(())
+}
+
+fn push_output_err(line: &mut Vec<u8>, err: &OutputErr) -> Result<(), Memory> {
+    match err {
+        OutputErr::NotNumber { line: number } => {
+            push_counted(line, b"outputs line", u128::from(*number))?;
+            Ok(line.extend_from_slice(b" not a number")?)
+        }
+        OutputErr::TooMany { count } => {
+            push_counted(line, b"outputs too many", u128::from(*count))
+        }
+        OutputErr::Memory => Ok(()),
+    }
 }
 
 // Some words, and a name.
@@ -94,6 +116,7 @@ fn push_status(line: &mut Vec<u8>, status: &Status) -> Result<(), Memory> {
             push_spaced(line, *len)
         }
         Status::Param(err) => push_param_err(line, err),
+        Status::Outputs(err) => push_output_err(line, err),
         Status::Snapshot(err) => {
             line.extend_from_slice(b"snapshot ")?;
             push_snap_err(line, err)

@@ -1,21 +1,40 @@
 // The top call: words in, a status out.
 use crate::command::{Command, command_of};
-use crate::inputs::{load_bodies, load_params};
-use crate::session;
+use crate::inputs::{load_bodies, load_outputs, load_params};
 use crate::status::Status;
 use crate::texts::{done_line, status_line};
+use run_session::{End, Ended};
 use std::alloc::Global;
 use store_io::{IoErr, Schedule, Sink, Stopper, Store, Text};
+
+// The line of a run that is done, or why it isn't.
+fn line_of(alloc: Global, ended: Ended) -> Result<Vec<u8>, Status> {
+    let line = done_line(alloc, &ended);
+    match ended.end {
+        End::Done => line.map_err(|_| Status::Memory),
+        End::WriteFault { name } => Err(Status::WriteFault { name }),
+        End::MomRange {
+            tick,
+            bin,
+            id,
+            axis,
+        } => Err(Status::MomRange {
+            tick,
+            bin,
+            id,
+            axis,
+        }),
+        End::StepRange { tick, id } => Err(Status::StepRange { tick, id }),
+        End::Memory => Err(Status::Memory),
+    }
+}
 
 // A run with one rank, from its parameter file to the line that it ends with.
 fn run<S: Store>(alloc: Global, store: &mut S, param: &Text) -> Result<Vec<u8>, Status> {
     let params = load_params(alloc, store, param)?;
-    let mut set = load_bodies(alloc, store, &params.init_cond_file)?;
-    let finished = session::run(alloc, &mut set, &params, store)?;
-    match done_line(alloc, &finished) {
-        Ok(line) => Ok(line),
-        Err(_) => Err(Status::Memory),
-    }
+    let outputs = load_outputs(alloc, store, &params)?;
+    let set = load_bodies(alloc, store, &params.init_cond_file)?;
+    line_of(alloc, run_session::run(alloc, set, &params, &outputs, store))
 }
 
 // Does what the words ask for, and gives the line to print.

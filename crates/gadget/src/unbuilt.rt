@@ -4,17 +4,9 @@ use nbody_model::Body;
 use param_file::Params;
 use std::alloc::Global;
 
-// Whether a run by these parameters is one base step with no output list.
-fn is_one_step(params: &Params) -> bool {
-    params.time_max != 0
-        && params.time_max <= 1u64.wrapping_shl(params.top_bin as u32)
-        && params.output_list_filename.is_none()
-        && params.restart_every == 0
-}
-
 /// Whether a parameter file asks for what isn't built.
 pub fn asks_unbuilt(params: &Params) -> bool {
-    !is_one_step(params)
+    params.restart_every != 0
         || params.err_tol_theta != 0
         || params.low_bin != params.top_bin
         || params.rank_trace != 0

@@ -19,7 +19,7 @@ pub fn numbered(alloc: Global, base: &Text, n: u64) -> Result<Text, Memory> {
 }
 
 /// Puts three numbers behind a line, each after a space.
-pub fn push_vector(line: &mut Vec<u8>, v: &[i128; 3]) -> Result<(), Memory> {
+fn push_vector(line: &mut Vec<u8>, v: &[i128; 3]) -> Result<(), Memory> {
     for number in v {
         line.push(b' ')?;
         push_number(line, *number)?;

@@ -1,5 +1,5 @@
 use Rattle.std.proofs.Common.{◌≤◌, ◌^◌}
-use Rattle.gadget.proofs.leaf.softening_at.Given as goal
+use Rattle.run_session.proofs.leaf.softening_at.Given as goal
 
 abbrev pub invariant-loop-body : goal.invariant-loop-body
 invariant-loop-body l = record {

@@ -72,7 +72,7 @@ fn kicked(motion: &Motion, force: &V3, h: u64) -> Result<Motion, u8>
 fn put_motions(set: &mut BodySet, motions: &[Motion]) {
     for i in 0..set.len() {
         if let Some(motion) = motions.get(i) {
-            *set.lend_one(i) = *motion;
+            set.set_motion(i, *motion);
         }
     }
 }
@@ -116,18 +116,21 @@ fn moved(x: u32, p: i64, ticks: u64, mass: u32, shift: u8) -> u32
     (i128::from(x) + way).rem_euclid(1 << 32) as u32
 }
 
-fn drifted(body: &Body, ticks: u64, shift: u8) -> [u32; 3]
+// The motion of a body after a drift by so many ticks.
+fn drifted(body: &Body, ticks: u64, shift: u8) -> Motion
     requires ticks { ticks ≤ 2 ^ 20 }
     requires shift { shift ≤ 40 }
 {
-    let pos = body.motion.pos();
-    let mom = body.motion.mom();
+    let mut motion = body.motion;
+    let pos = motion.pos();
+    let mom = motion.mom();
     let mass = body.mass;
-    [
+    motion.set_pos([
         moved(pos[0], mom[0], ticks, mass, shift),
         moved(pos[1], mom[1], ticks, mass, shift),
         moved(pos[2], mom[2], ticks, mass, shift),
-    ]
+    ]);
+    motion
 }
 
 // All bodies move on for so many ticks.
@@ -136,8 +139,8 @@ fn drift(set: &mut BodySet, ticks: u64, shift: u8)
     requires shift { shift ≤ 40 }
 {
     for i in 0..set.len() {
-        let pos = drifted(set.get(i), ticks, shift);
-        set.lend_one(i).set_pos(pos);
+        let motion = drifted(set.get(i), ticks, shift);
+        set.set_motion(i, motion);
     }
 }
 

@@ -1,8 +1,8 @@
 use Rattle.std.proofs.Common.{◌≡◌, List, [], ◌∷◌, ap, ◌∙◌}
 use Rattle.cell_space.specs.Cells.{Position}
 use Rattle.nbody_model.specs.Bodies.{BodyData}
-use Rattle.gadget.proofs.Kept.{own_part}
-use Rattle.gadget.proofs.shares.masses.Goals as goal
+use Rattle.run_session.proofs.Kept.{own_part}
+use Rattle.run_session.proofs.shares.masses.Goals as goal
 
 pub returns-clause-part : goal.returns-clause-part
 returns-clause-part c =

@@ -1,0 +1,11 @@
+use Rattle.std.proofs.Common.{◌≡◌, ◌-◌, IsTrue, IsSome}
+use Rattle.run_session.proofs.session.make_steps.Given as goal
+
+abbrev pub invariant-steps : goal.invariant-steps
+invariant-steps g l = record {
+  tells : g.S.Store.tells l.store ≡ g.S.Store.tells l.initial.store;
+  stands : IsTrue (g.S.Store.tells l.initial.store) → IsSome (g.S.Store.file l.store l.params.kick_file);
+}
+
+abbrev pub decreases-steps : goal.decreases-steps
+decreases-steps g l = l.time_max - l.run.tick
