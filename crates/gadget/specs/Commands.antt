@@ -1,0 +1,57 @@
+-- What the words ask for.
+use Rattle.std.specs.Prelude.{ℕ, ◌^◌, ◌-◌, Bool, ◌&&◌, not, nat_le, if◌then◌else◌, List, [], ◌∷◌, length, codes, Option, Some, None, is_some, Result, Ok, Err}
+use Rattle.std.specs.Str.{bytes_eq}
+use Rattle.std.specs.List.{list_all}
+use Rattle.store_io.specs.Names.{is_name, is_visible}
+use Rattle.text_words.specs.declared.number.NumErr.{NumErr}
+use Rattle.text_words.specs.Numbers.{whole_number}
+
+-- nothing that is known, a command that isn't built, or a run by a parameter file on so many ranks
+pub data Asked : Type 0 where
+  nothing : Asked
+  unbuilt : Asked
+  run : List ℕ → ℕ → Asked
+
+-- 1 to `most` visible bytes
+abbrev pub is_visible_name : ℕ → List ℕ → Bool
+is_visible_name most word = nat_le 1 (length word) && (nat_le (length word) most && list_all is_visible word)
+
+-- a number in a range
+abbrev pub if_between : ℕ → ℕ → Result ℕ NumErr → Option ℕ
+if_between least most (Ok n) = if nat_le least n && nat_le n most then Some n else None
+if_between least most (Err e) = None
+
+abbrev pub number_in : ℕ → ℕ → List ℕ → Option ℕ
+number_in least most word = if_between least most (whole_number word)
+
+abbrev pub run_on : List ℕ → Option ℕ → Asked
+run_on param (Some ranks) = run param ranks
+run_on param None = nothing
+
+abbrev pub unbuilt_if : Bool → Asked
+unbuilt_if well_formed = if well_formed then unbuilt else nothing
+
+-- a restart file or a snapshot: a base of 200 bytes, `_` and 20 digits
+abbrev pub is_numbered_name : List ℕ → Bool
+is_numbered_name word = is_visible_name 221 word
+
+abbrev pub asked_of_two : List ℕ → List ℕ → Asked
+asked_of_two word name =
+    if bytes_eq word (codes "check") then unbuilt_if (is_name name)
+    else (if bytes_eq word (codes "show") then unbuilt_if (is_numbered_name name) else nothing)
+
+abbrev pub asked_of_three : List ℕ → List ℕ → List ℕ → Asked
+asked_of_three word param ranks =
+    if bytes_eq word (codes "run") then (if is_name param then run_on param (number_in 1 256 ranks) else nothing) else nothing
+
+abbrev pub asked_of_four : List ℕ → List ℕ → List ℕ → List ℕ → Asked
+asked_of_four word a b c =
+    if bytes_eq word (codes "resume") then unbuilt_if (is_name a && (is_numbered_name b && is_some (number_in 1 256 c)))
+    else (if bytes_eq word (codes "make") then unbuilt_if (is_some (number_in 0 1048576 a) && (is_some (number_in 0 (2 ^ 64 - 1) b) && is_visible_name 180 c)) else nothing)
+
+-- what the words ask for
+abbrev pub asked : List (List ℕ) → Asked
+asked (word ∷ a ∷ []) = asked_of_two word a
+asked (word ∷ a ∷ b ∷ []) = asked_of_three word a b
+asked (word ∷ a ∷ b ∷ c ∷ []) = asked_of_four word a b c
+asked words = nothing

@@ -1,0 +1,134 @@
+// What the words ask for.
+ghost use Rattle.std.specs.Prelude.{◌≡◌, codes};
+ghost use Rattle.std.specs.Str.{bytes_eq};
+ghost use Rattle.std.specs.List.{list_all};
+ghost use Rattle.store_io.specs.Names.{is_visible, is_name};
+ghost use Rattle.gadget.specs.Asks.{Means};
+ghost use Rattle.gadget.specs.Commands.{asked, asked_of_two, asked_of_three, asked_of_four, is_visible_name, number_in, run_on, unbuilt_if};
+
+use store_io::Text;
+use text_words::read_whole_number;
+
+/// What the words ask for. `Unbuilt` stands for words that are well formed, of a command that isn't built.
+#[derive(Clone, Copy)]
+pub enum Command<'a> {
+    Nothing,
+    Run { param: &'a Text, ranks: u64 },
+    Unbuilt,
+}
+
+/// A base of 200 bytes, `_` and 20 digits.
+const LONGEST_NUMBERED: usize = 221;
+
+/// A name to which `_restart` or the like can still be put.
+const LONGEST_MADE: usize = 180;
+
+const MOST_RANKS: u64 = 256;
+
+const MOST_BODIES: u64 = 1_048_576;
+
+fn is_word(word: &Text, want: &[u8]) -> bool
+    ensures { result ≡ bytes_eq word.now want.now }
+{
+    word.bytes() == want
+}
+
+fn all_visible(bytes: &[u8]) -> bool
+    ensures { result ≡ list_all is_visible bytes.now }
+{
+    bytes.iter().all(|b| 33 <= *b && *b <= 126)
+}
+
+// Whether a word has 1 to `most` bytes, each a visible character of ASCII.
+fn is_visible_name(word: &Text, most: usize) -> bool
+    ensures { result ≡ is_visible_name most word.now }
+{
+    let bytes = word.bytes();
+    let len = bytes.len();
+    1 <= len && (len <= most && all_visible(bytes))
+}
+
+// The number that a word spells, where it lies in this range.
+fn number_in(word: &Text, least: u64, most: u64) -> Option<u64>
+    ensures { result ≡ number_in least most word.now }
+{
+    match read_whole_number(word.bytes()) {
+        Ok(n) => {
+            if least <= n && n <= most {
+                Some(n)
+            } else {
+                None
+            }
+        }
+        Err(_) => None,
+    }
+}
+
+// A command that isn't built, where its words are well formed.
+fn unbuilt_if<'a>(well_formed: bool) -> Command<'a>
+    ensures { Means result (unbuilt_if well_formed) }
+{
+    if well_formed {
+        Command::Unbuilt
+    } else {
+        Command::Nothing
+    }
+}
+
+fn of_two<'a>(word: &Text, name: &Text) -> Command<'a>
+    ensures { Means result (asked_of_two word.now name.now) }
+{
+    if is_word(word, b"check") {
+        return unbuilt_if(name.is_name());
+    }
+    if is_word(word, b"show") {
+        return unbuilt_if(is_visible_name(name, LONGEST_NUMBERED));
+    }
+    Command::Nothing
+}
+
+fn of_three<'a>(word: &Text, param: &'a Text, ranks: &Text) -> Command<'a>
+    ensures { Means result (asked_of_three word.now param.now ranks.now) }
+{
+    if !is_word(word, b"run") {
+        return Command::Nothing;
+    }
+    if !param.is_name() {
+        return Command::Nothing;
+    }
+    match number_in(ranks, 1, MOST_RANKS) {
+        Some(ranks) => Command::Run { param, ranks },
+        None => Command::Nothing,
+    }
+}
+
+fn of_four<'a>(word: &Text, a: &Text, b: &Text, c: &Text) -> Command<'a>
+    ensures { Means result (asked_of_four word.now a.now b.now c.now) }
+{
+    if is_word(word, b"resume") {
+        return unbuilt_if(
+            a.is_name()
+                && (is_visible_name(b, LONGEST_NUMBERED)
+                    && number_in(c, 1, MOST_RANKS).is_some()),
+        );
+    }
+    if is_word(word, b"make") {
+        return unbuilt_if(
+            number_in(a, 0, MOST_BODIES).is_some()
+                && (number_in(b, 0, u64::MAX).is_some() && is_visible_name(c, LONGEST_MADE)),
+        );
+    }
+    Command::Nothing
+}
+
+/// The command that the words name.
+pub fn command_of<'a>(words: &'a [Text]) -> Command<'a>
+    ensures { Means result (asked words.now) }
+{
+    match words {
+        [word, name] => of_two(word, name),
+        [word, param, ranks] => of_three(word, param, ranks),
+        [word, a, b, c] => of_four(word, a, b, c),
+        _ => Command::Nothing,
+    }
+}

@@ -1,0 +1,54 @@
+//! A collisionless N-body run in whole numbers: reads the words behind the program's name, does what they
+//! ask for in the working folder, and ends with the status's code.
+#![tactic(auto)]
+
+mod command;
+mod direct;
+mod inputs;
+mod leaf;
+mod numbers;
+mod session;
+mod shares;
+mod snap_texts;
+mod status;
+mod step;
+mod texts;
+mod top;
+mod unbuilt;
+
+use fixed_point::Memory;
+use std::env;
+use std::process::ExitCode;
+use store_io::{ConsoleSink, FileStop, FileStore, SeededSchedule, Text};
+
+fn words_of(rt: &HostRuntime) -> Result<Vec<Text>, Memory> {
+    let alloc = rt.alloc();
+    let mut words = Vec::new(alloc);
+    let Ok(args) = env::args(rt) else {
+        return Err(Memory);
+    };
+    for word in args.skip(1) {
+        words.push(Text::from_bytes(alloc, word.as_bytes())?)?;
+    }
+    Ok(words)
+}
+
+fn run(rt: &HostRuntime) -> Result<u8, Memory> {
+    let words = words_of(rt)?;
+    let status = top::gadget(
+        rt.alloc(),
+        &words,
+        &mut FileStore::new(rt.clone()?),
+        &mut SeededSchedule::new(),
+        &mut FileStop::new(rt.clone()?),
+        &mut ConsoleSink::new(rt.clone()?),
+    );
+    Ok(status.code())
+}
+
+fn main(rt: HostRuntime) -> ExitCode {
+    match run(&rt) {
+        Ok(code) => ExitCode::from(code),
+        Err(Memory) => ExitCode::from(3),
+    }
+}

@@ -1,0 +1,59 @@
+// How a command ended.
+use param_file::ParamErr;
+use snap_file::SnapErr;
+use store_io::Text;
+
+/// How a command ended. `code` is the program's exit status.
+#[derive(Debug, Drop)]
+pub enum Status {
+    Done,
+    Usage,
+    Memory,
+    ReadFault {
+        name: Text,
+    },
+    WriteFault {
+        name: Text,
+    },
+    ConsoleFault,
+    Absent {
+        name: Text,
+    },
+    TooLong {
+        name: Text,
+        len: u64,
+    },
+    NotBuilt,
+    Param(ParamErr),
+    Snapshot(SnapErr),
+    MomRange {
+        tick: u64,
+        bin: u8,
+        id: u64,
+        axis: u8,
+    },
+    StepRange {
+        tick: u64,
+        id: u64,
+    },
+}
+
+impl Status {
+    pub fn code(&self) -> u8 {
+        match self {
+            Status::Done => 0,
+            Status::Usage => 2,
+            Status::Memory => 3,
+            Status::ReadFault { .. } => 4,
+            Status::WriteFault { .. } => 5,
+            Status::ConsoleFault => 6,
+            Status::Absent { .. } => 7,
+            Status::TooLong { .. } => 8,
+            Status::NotBuilt => 9,
+            Status::Param(_) => 10,
+            Status::Snapshot(_) => 13,
+            Status::MomRange { .. } => 20,
+            Status::StepRange { .. } => 21,
+        }
+    }
+}
