@@ -11,6 +11,7 @@ pub mod PairForce
 pub mod Covers
 pub mod Walks
 pub mod Force
+pub mod Laws
 pub mod Factors
 pub mod Steps
 pub mod Evolve

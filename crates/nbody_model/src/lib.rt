@@ -5,6 +5,7 @@ mod body;
 mod field;
 mod forces;
 mod kicks;
+pub mod laws;
 mod setup;
 pub mod worked;
 

@@ -1,0 +1,2 @@
+// The laws of the definitions, as contracts.
+pub mod walk;
