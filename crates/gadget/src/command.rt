@@ -108,8 +108,7 @@ fn of_four<'a>(word: &Text, a: &Text, b: &Text, c: &Text) -> Command<'a>
     if is_word(word, b"resume") {
         return unbuilt_if(
             a.is_name()
-                && (is_visible_name(b, LONGEST_NUMBERED)
-                    && number_in(c, 1, MOST_RANKS).is_some()),
+                && (is_visible_name(b, LONGEST_NUMBERED) && number_in(c, 1, MOST_RANKS).is_some()),
         );
     }
     if is_word(word, b"make") {

@@ -8,7 +8,8 @@ use run_session::Ended;
 use std::alloc::Global;
 use text_words::{push_number, push_unsigned};
 
-const USAGE: &[u8] = b"usage: gadget run PARAM RANKS | resume PARAM RESTART RANKS | check PARAM | show SNAP | make COUNT SEED NAME";
+const USAGE: &[u8] =
+    b"usage: gadget run PARAM RANKS | resume PARAM RESTART RANKS | check PARAM | show SNAP | make COUNT SEED NAME";
 
 // Some words, and a number.
 fn push_counted(line: &mut Vec<u8>, words: &[u8], n: u128) -> Result<(), Memory> {

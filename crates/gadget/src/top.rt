@@ -34,7 +34,10 @@ fn run<S: Store>(alloc: Global, store: &mut S, param: &Text) -> Result<Vec<u8>, 
     let params = load_params(alloc, store, param)?;
     let outputs = load_outputs(alloc, store, &params)?;
     let set = load_bodies(alloc, store, &params.init_cond_file)?;
-    line_of(alloc, run_session::run(alloc, set, &params, &outputs, store))
+    line_of(
+        alloc,
+        run_session::run(alloc, set, &params, &outputs, store),
+    )
 }
 
 // Does what the words ask for, and gives the line to print.

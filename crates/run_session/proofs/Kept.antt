@@ -4,7 +4,9 @@ use Rattle.std.proofs.lemmas.List.Sums.{sum_by-cons}
 use Rattle.std.proofs.lemmas.Nat.{mul-le}
 use Rattle.std.proofs.lemmas.Bool.Decides.{nat_tests}
 use Rattle.cell_space.specs.Cells.{Position, place, same_place}
-use Rattle.nbody_model.specs.Bodies.{BodyData}
+use Rattle.nbody_model.specs.Bodies.{BodyData, MotionData}
+use Rattle.particle_set.specs.Motions.{with_motion_at}
+use Rattle.particle_set.proofs.MotionLemmas.{length-with_motion_at}
 
 kept_first : {X : Type 0} (f : X → ℕ) (x : X) (xs : List X) (b : Bool) → b ≡ true → f x ≤ sum_by f (cond b (x ∷ xs) xs)
 kept_first f x xs b e = rw e (omega (arith, sum_by-cons f x xs))
@@ -34,3 +36,7 @@ own_part B i b at mass h is e m =
     let test : same_place b.motion.pos (place at) ≡ true = subst (λ (q : Position). same_place b.motion.pos q ≡ true) (sym at_is) (same_place_refl b.motion.pos) in
     let kept = kept_term (λ (o : BodyData). o.mass) (λ o. same_place o.motion.pos (place at)) B i b h (subst (λ (o : BodyData). same_place o.motion.pos (place at) ≡ true) is test) in
     rw m (subst (λ (o : BodyData). o.mass ≤ sum_by (λ q. q.mass) (filter (λ q. same_place q.motion.pos (place at)) B)) (sym is) kept)
+
+-- another motion leaves as many bodies
+pub moved_length : (B : List BodyData) (i : ℕ) (m : MotionData) → length (with_motion_at B i m) ≡ length B
+moved_length B i m = length-with_motion_at B i m

@@ -21,3 +21,9 @@ quotient_bound k d den hk hd low =
     let wide = mul-le (2 ^ 103 + 1) (2 ^ 24) (2 ^ 103 + 1) den (omega arith) low in
     let below : k * d < (2 ^ 103 + 1) * den = omega (arith, top, wide) in
     omega (arith, div_below (k * d) den (2 ^ 103 + 1) (omega (arith, low)) below)
+
+pub allowance_high : (eta eps mass scale : ℕ) → eta ≤ 2 ^ 16 → eps ≤ 2 ^ 30 → mass < 2 ^ 32 → scale ≤ 2 ^ 40 → 2 * eta * eps * mass * scale < 2 ^ 120
+allowance_high eta eps mass scale h k m s =
+    let first = mul-le (2 * eta) eps (2 ^ 17) (2 ^ 30) (omega arith) k in
+    let second = mul-le (2 * eta * eps) mass (2 ^ 47) (2 ^ 32) (omega (arith, first)) (omega arith) in
+    omega (arith, mul-le (2 * eta * eps * mass) scale (2 ^ 79) (2 ^ 40) (omega (arith, second)) s)

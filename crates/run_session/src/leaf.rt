@@ -51,7 +51,7 @@ pub fn mass_at(bodies: &[Body], pos: [u32; 3]) -> u64
 }
 
 /// The softening length of a body.
-fn softening_of(setup: &Setup, body: &Body) -> u32
+pub fn softening_of(setup: &Setup, body: &Body) -> u32
     ensures low { 256 ≤ result }
     ensures high { result ≤ 2 ^ 30 }
 {

@@ -3,6 +3,7 @@ ghost use Rattle.std.specs.Prelude.{◌≡◌, ◌≤◌, ◌<◌, ◌^◌, ◌*
 ghost use Rattle.nbody_model.specs.Bodies.{IsValid};
 
 use crate::direct::field_of;
+use crate::leaf::softening_of;
 use fixed_point::{Memory, V3, floor_div_mod, scale_in_range};
 use nbody_model::{Body, Field, Motion, Record, Setup};
 use particle_set::BodySet;
@@ -30,13 +31,44 @@ impl From<Memory> for StepEnd {
     }
 }
 
+// A power of two.
+fn power(exponent: u8) -> u64
+    requires { exponent ≤ 40 }
+    ensures value { result ≡ 2 ^ exponent }
+    ensures some { 1 ≤ result }
+    ensures high { result ≤ 2 ^ 40 }
+{
+    1u64 << exponent
+}
+
+// Half of the length of a step in a bin, in ticks.
+fn half_of(bin: u8) -> u64
+    requires low { 1 ≤ bin }
+    requires high { bin ≤ 20 }
+    ensures some { 1 ≤ result }
+    ensures high { result ≤ 2 ^ 19 }
+{
+    power(bin - 1)
+}
+
+// How large the force on a body may be, times `4^bin`.
+#[tactic(auto, using(crate::proofs::Products::allowance_high))]
+fn allowance(eta: u32, eps: u32, mass: u32, shift: u8) -> u128
+    requires eta { eta ≤ 2 ^ 16 }
+    requires eps { eps ≤ 2 ^ 30 }
+    requires shift { shift ≤ 40 }
+{
+    let scale = u128::from(power(shift));
+    let heavy = 2 * u128::from(eta) * u128::from(eps) * u128::from(mass);
+    heavy * scale / 65536
+}
+
 // Whether a body with this force may make steps of `2^bin` ticks.
 fn fits(setup: &Setup, body: &Body, force: &V3, bin: u8) -> bool
     requires { bin ≤ 20 }
 {
-    let eps = u128::from(setup.soft[body.kind as usize]);
-    let scale = 1u128 << setup.velocity_shift;
-    let most = 2 * u128::from(setup.eta) * eps * u128::from(body.mass) * scale / 65536;
+    let eps = softening_of(setup, body);
+    let most = allowance(setup.eta, eps, body.mass, setup.velocity_shift);
     let size = force
         .x
         .unsigned_abs()
@@ -70,8 +102,8 @@ fn kicked(motion: &Motion, force: &V3, h: u64) -> Result<Motion, u8>
 
 // Puts these motions in the place of those of the bodies.
 fn put_motions(set: &mut BodySet, motions: &[Motion]) {
-    for i in 0..set.len() {
-        if let Some(motion) = motions.get(i) {
+    for (i, motion) in motions.iter().enumerate() {
+        if i < set.len() {
             set.set_motion(i, *motion);
         }
     }
@@ -86,7 +118,7 @@ fn kick(
     tick: u64,
 ) -> Result<(), StepEnd> {
     let bin = setup.top_bin;
-    let h = 1u64 << (bin - 1);
+    let h = half_of(bin);
     let mut motions = Vec::new(alloc);
     for (body, force) in set.bodies().iter().zip(forces.forces.iter()) {
         match kicked(&body.motion, force, h) {
@@ -134,6 +166,7 @@ fn drifted(body: &Body, ticks: u64, shift: u8) -> Motion
 }
 
 // All bodies move on for so many ticks.
+#[tactic(auto, using(crate::proofs::Kept::moved_length))]
 fn drift(set: &mut BodySet, ticks: u64, shift: u8)
     requires ticks { ticks ≤ 2 ^ 20 }
     requires shift { shift ≤ 40 }
@@ -168,7 +201,8 @@ pub fn base_step(
     requires { tick ≤ 2 ^ 40 }
 {
     let bin = setup.top_bin;
-    let end = tick + (1u64 << bin);
+    let ticks = 2 * half_of(bin);
+    let end = tick + ticks;
     let first = field_of(alloc, setup, set.bodies())?;
     if let Some(id) = first_unfit(setup, set.bodies(), &first.forces, bin) {
         return Err(StepEnd::StepRange { tick, id });
@@ -177,7 +211,7 @@ pub fn base_step(
     kicks
         .push(record_of(set, &first, setup, tick))
         .map_err(|_| Memory)?;
-    drift(set, 1u64 << bin, setup.velocity_shift);
+    drift(set, ticks, setup.velocity_shift);
     let second = field_of(alloc, setup, set.bodies())?;
     kick(alloc, set, &second, setup, end)?;
     kicks

@@ -1,5 +1,5 @@
 // Writes snapshots to a store.
-ghost use Rattle.std.specs.Prelude.{◌≡◌, [], Option, Some, false, Bool, IsTrue, OnOk, OnErr};
+ghost use Rattle.std.specs.Prelude.{◌≡◌, ℕ, List, [], Option, Some, false, Bool, IsTrue, OnOk, OnErr};
 ghost use Rattle.store_io.specs.Causes.{HasCause, io_failed};
 ghost use Rattle.store_io.specs.Files.{ChangesOnly, AppendsPart};
 
@@ -20,6 +20,8 @@ pub fn put_snapshot<S: Store>(
     requires { IsTrue (S.tells store.old) → S.file store.old name.now ≡ Some [] }
     ensures tells { S.tells store.new ≡ S.tells store.old }
     ensures closed { S.closed store.new ≡ S.closed store.old }
+    ensures written { OnOk result (IsTrue (S.tells store.old)
+        → (bytes : List ℕ) × ChangesOnly (S.file store.old) (S.file store.new) name.now (Some bytes)) }
     ensures cause { HasCause (io_failed result) (name.now, false)
         (S.faults store.old) (S.faults store.new) (S.last store.old) (S.last store.new) }
 {

@@ -117,11 +117,7 @@ fn run_words(
 }
 
 const PAIR: [OnAxis; 2] = [
-    OnAxis {
-        id: 1,
-        x: 0,
-        px: 0,
-    },
+    OnAxis { id: 1, x: 0, px: 0 },
     OnAxis {
         id: 2,
         x: 1000,
@@ -146,12 +142,15 @@ fn two_bodies_make_one_base_step(rt: HostRuntime) -> Result<(), Fail> {
     let want = snapshot(alloc, &after, 2)?;
     assert_eq!(rt; want.len(), 472);
     let name = text(alloc, b"snapshot_000")?;
-    assert!(rt; store.get(&name).is_some_and(|bytes| bytes == want.as_slice()));
-    let kicks = text(alloc, b"kicks.txt")?;
     assert!(rt;
         store
-            .get(&kicks)
-            .is_some_and(|bytes| bytes == b"0 1 2 0 1 0 0 0 0\n2 1 2 0 1 0 0 0 0\n".as_slice())
+            .get(&name)
+            .is_some_and(|bytes| bytes == want.as_slice())
+    );
+    let kicks = text(alloc, b"kicks.txt")?;
+    assert!(rt;
+        store.get(&kicks).is_some_and(|bytes| bytes
+            == b"0 1 2 0 1 0 0 0 0\n2 1 2 0 1 0 0 0 0\n".as_slice())
     );
     Ok(())
 }
@@ -191,21 +190,149 @@ fn runs_end_as_they_should(rt: HostRuntime) -> Result<(), Fail> {
 #[test]
 fn parameters_are_answered(rt: HostRuntime) -> Result<(), Fail> {
     let alloc = rt.alloc();
-    let two = "VelocityShift 20\nErrTolIntAccuracy 65536\nTimeMax 3";
-    assert!(rt; prints(alloc, two, &PAIR, 9, "not built\n")?);
+    let traced = "VelocityShift 20\nErrTolIntAccuracy 65536\nTimeMax 2\nRankTrace 1";
+    assert!(rt; prints(alloc, traced, &PAIR, 9, "not built\n")?);
     let restarts = "VelocityShift 20\nErrTolIntAccuracy 65536\nTimeMax 2\nRestartEvery 1";
     assert!(rt; prints(alloc, restarts, &PAIR, 9, "not built\n")?);
     let unknown = "VelocityShift 20\nGravity 5\nTimeMax 2";
     assert!(rt; prints(alloc, unknown, &PAIR, 10, "parameter line 8 unknown\n")?);
     let missing = "VelocityShift 20\nErrTolIntAccuracy 65536";
-    assert!(rt; prints(alloc, missing, &PAIR, 10, "parameter line 0 missing TimeMax\n")?);
+    assert!(rt;
+        prints(
+            alloc,
+            missing,
+            &PAIR,
+            10,
+            "parameter line 0 missing TimeMax\n"
+        )?
+    );
+    Ok(())
+}
+
+// The parameter file of four base steps with a list, but for what isn't built.
+const FOUR_STEPS: &[u8] = b"% a collisionless run
+InitCondFile            ics.dat
+SnapshotFileBase        snapshot
+OutputListFilename      outputs.txt   % in ticks
+
+RestartFileBase         restart
+KickFile                kicks.txt
+RankTraceFile           ranktrace.txt
+TimeMax                 4000
+LowBin                  10
+TopBin                  10
+ErrTolTheta             0
+ErrTolIntAccuracy       1638
+GravityConstantInternal 1048576
+VelocityShift           20
+SofteningType1          4096
+SofteningType2          8192
+SofteningType3          8192
+SofteningType4          8192
+SofteningType5          8192
+RestartEvery            0
+RankTrace               0
+DeliverySeed            42
+";
+
+// Runs four base steps with this list, and gives the status's code.
+fn run_with_list(
+    alloc: Global,
+    list: &[u8],
+    store: &mut MemStore,
+    sink: &mut MemSink,
+) -> Result<u8, Memory> {
+    store.put(&text(alloc, b"param.txt")?, FOUR_STEPS)?;
+    store.put(&text(alloc, b"outputs.txt")?, list)?;
+    let ics = snapshot(alloc, &PAIR, 0)?;
+    store.put(&text(alloc, b"ics.dat")?, &ics)?;
+    run_words(alloc, &["run", "param.txt", "1"], store, sink)
+}
+
+// The tick that the head of a snapshot tells, none where there is no such file.
+fn tick_of(store: &MemStore, name: &Text) -> Option<u64> {
+    let bytes = store.get(name)?;
+    let tick = bytes.get(52..60)?.first_chunk::<8>()?;
+    Some(u64::from_le_bytes(*tick))
+}
+
+#[test]
+fn four_base_steps_write_the_listed_snapshots(rt: HostRuntime) -> Result<(), Fail> {
+    let alloc = rt.alloc();
+    let mut store = MemStore::new(alloc);
+    let mut sink = MemSink::new(alloc);
+    let list = b"1600\n0\n% later ones\n1000 1\n1500\n9000\n";
+    assert_eq!(rt; run_with_list(alloc, list, &mut store, &mut sink)?, 0);
+    assert_eq!(rt;
+        sink.bytes(),
+        b"done tick 4096 steps 4 snapshots 4 kicks 8 interactions 8 momentum 0 0 0\n".as_slice()
+    );
+    let ticks = [
+        ("snapshot_000", Some(0)),
+        ("snapshot_001", Some(1024)),
+        ("snapshot_002", Some(2048)),
+        ("snapshot_003", Some(4096)),
+        ("snapshot_004", None),
+    ];
+    for (name, tick) in ticks {
+        assert_eq!(rt;
+            tick_of(&store, &text(alloc, name.as_bytes())?),
+            tick,
+            "of {name}"
+        );
+    }
+    Ok(())
+}
+
+#[test]
+fn faulty_lists_are_answered(rt: HostRuntime) -> Result<(), Fail> {
+    let alloc = rt.alloc();
+    let cases = [
+        ("5\n% x\n7 8\nabc\n", "outputs line 4 not a number\n"),
+        ("18446744073709551616", "outputs line 1 not a number\n"),
+    ];
+    for (list, want) in cases {
+        let mut store = MemStore::new(alloc);
+        let mut sink = MemSink::new(alloc);
+        assert_eq!(rt;
+            run_with_list(alloc, list.as_bytes(), &mut store, &mut sink)?,
+            11
+        );
+        assert_eq!(rt; sink.bytes(), want.as_bytes());
+        assert!(rt; store.get(&text(alloc, b"kicks.txt")?).is_none());
+    }
+    let mut many = Vec::new(alloc);
+    for _ in 0..65537 {
+        many.extend_from_slice(b"1\n")?;
+    }
+    let mut store = MemStore::new(alloc);
+    let mut sink = MemSink::new(alloc);
+    assert_eq!(rt; run_with_list(alloc, &many, &mut store, &mut sink)?, 11);
+    assert_eq!(rt; sink.bytes(), b"outputs too many 65537\n".as_slice());
+    Ok(())
+}
+
+#[test]
+fn clashing_names_are_refused(rt: HostRuntime) -> Result<(), Fail> {
+    let alloc = rt.alloc();
+    let mut store = MemStore::new(alloc);
+    let params =
+        b"InitCondFile ics.dat\nSnapshotFileBase snapshot\nKickFile snapshot_7\nTimeMax 2\nLowBin 1\nTopBin 1\nErrTolTheta 0\nErrTolIntAccuracy 1\nGravityConstantInternal 0\nVelocityShift 0\n";
+    store.put(&text(alloc, b"param.txt")?, params)?;
+    let mut sink = MemSink::new(alloc);
+    assert_eq!(rt;
+        run_words(alloc, &["run", "param.txt", "1"], &mut store, &mut sink)?,
+        10
+    );
+    assert_eq!(rt; sink.bytes(), b"parameter line 3 clash\n".as_slice());
     Ok(())
 }
 
 #[test]
 fn words_and_files_are_answered(rt: HostRuntime) -> Result<(), Fail> {
     let alloc = rt.alloc();
-    let usage = "usage: gadget run PARAM RANKS | resume PARAM RESTART RANKS | check PARAM | show SNAP | make COUNT SEED NAME\n";
+    let usage =
+        "usage: gadget run PARAM RANKS | resume PARAM RESTART RANKS | check PARAM | show SNAP | make COUNT SEED NAME\n";
     let cases: [(&[&str], u8, &str); 8] = [
         (&[], 2, usage),
         (&["run", "param.txt", "0"], 2, usage),
@@ -221,7 +348,11 @@ fn words_and_files_are_answered(rt: HostRuntime) -> Result<(), Fail> {
         let long = vec![in alloc; b'\n'; 65537]?;
         store.put(&text(alloc, b"long")?, &long)?;
         let mut sink = MemSink::new(alloc);
-        assert_eq!(rt; run_words(alloc, words, &mut store, &mut sink)?, code, "at {want}");
+        assert_eq!(rt;
+            run_words(alloc, words, &mut store, &mut sink)?,
+            code,
+            "at {want}"
+        );
         assert_eq!(rt; sink.bytes(), want.as_bytes(), "at {want}");
     }
     Ok(())
@@ -255,6 +386,10 @@ fn faults_are_named(rt: HostRuntime) -> Result<(), Fail> {
         run_words(alloc, &["run", "param.txt", "1"], &mut store, &mut broken)?,
         6
     );
-    assert!(rt; store.get(&text(alloc, b"snapshot_000")?).is_some_and(|bytes| bytes.len() == 472));
+    assert!(rt;
+        store
+            .get(&text(alloc, b"snapshot_000")?)
+            .is_some_and(|bytes| bytes.len() == 472)
+    );
     Ok(())
 }
