@@ -65,3 +65,6 @@ impl V3 {
         }
     }
 }
+
+#[cfg(test)]
+mod tests;

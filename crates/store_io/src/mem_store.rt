@@ -1,5 +1,5 @@
 // Files in memory, whose calls fail where a test wants it.
-ghost use Rattle.std.specs.Prelude.{◌≡◌, ◌⊎◌, ◌+◌, ◌≤◌, Bool, true, false, List, [], ◌∷◌, ◌++◌, length, take, slice_range, option_copied, Option, Some, None, IsSome, IsTrue, OnOk, OnErr, Ok, Err};
+ghost use Rattle.std.specs.Prelude.{◌≡◌, ◌⊎◌, ℕ, ◌+◌, ◌≤◌, Bool, true, false, List, [], ◌∷◌, ◌++◌, length, take, slice_range, option_copied, Option, Some, None, IsSome, IsTrue, OnOk, OnErr, Ok, Err};
 ghost use Rattle.store_io.specs.Causes.{HasCause, io_failed, len_failed};
 ghost use Rattle.store_io.specs.Files.{bytes_of, ChangesOnly, HasRange, LengthAnswers, AppendsPart, kept_part};
 
@@ -22,7 +22,7 @@ pub struct MemStore {
 }
 
 impl MemStore {
-    ghost use Rattle.store_io.specs.MemStore.{mem_files, IsNew, KeepsCalls, PlansOnly};
+    ghost use Rattle.store_io.specs.MemStore.{mem_files, planned, IsNew, KeepsCalls, PlansOnly};
 
     /// No file, and no call that is to fail.
     pub fn new(alloc: Global) -> MemStore
@@ -41,6 +41,7 @@ impl MemStore {
         ensures ok { OnOk result (ChangesOnly (mem_files self.old) (mem_files self.new) name.now (Some bytes.now)) }
         ensures err { OnErr result (mem_files self.new ≡ mem_files self.old) }
         ensures calls { KeepsCalls self.old self.new }
+        ensures plan { (call : ℕ) → planned self.new call ≡ planned self.old call }
     {
         put_in(self.alloc, &mut self.files, name, bytes)
     }
@@ -58,9 +59,11 @@ impl MemStore {
     /// Lets the call of `Store` with this number fail, counted from 0. An append then keeps so many
     /// bytes, or all where there are fewer. The later of two entries for one call counts.
     pub fn fail(&mut self, call: u64, kept: u64) -> Result<(), Memory>
-        ensures ok { OnOk result (PlansOnly self.old self.new call kept) }
-        ensures err_files { OnErr result (mem_files self.new ≡ mem_files self.old) }
-        ensures err_calls { OnErr result (KeepsCalls self.old self.new) }
+        ensures files { mem_files self.new ≡ mem_files self.old }
+        ensures calls { KeepsCalls self.old self.new }
+        ensures ok { OnOk result (planned self.new call ≡ Some kept) }
+        ensures err { OnErr result (planned self.new call ≡ planned self.old call) }
+        ensures others { PlansOnly self.old self.new call }
     {
         self.plan.plan(call, kept)
     }
