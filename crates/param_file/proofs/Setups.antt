@@ -1,5 +1,5 @@
 -- Settings in range give a setup in range.
-use Rattle.std.proofs.Common.{◌≡◌, ℕ, suc, zero, ◌≤◌, ◌<◌, List, [], ◌∷◌, length, refl, arith}
+use Rattle.std.proofs.Common.{ℕ, suc, zero, ◌<◌, [], ◌∷◌, refl, arith}
 use Rattle.std.specs.Prelude.{slice_index}
 use Rattle.nbody_model.specs.Setups.{IsSoftening, AreSoftenings}
 

@@ -1,2 +1,5 @@
+pub mod Checks
+pub mod Known
+pub mod Reading
 pub mod Rows
 pub mod Settings

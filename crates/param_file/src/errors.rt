@@ -1,4 +1,7 @@
 // Why bytes spell no settings.
+ghost use Rattle.std.specs.Prelude.{◌≡◌};
+ghost use Rattle.param_file.specs.declared.errors.ParamKind.TheVariants.{Memory as OutOfMemory};
+
 use crate::names::ParamName;
 use fixed_point::Memory;
 use std::alloc::{AllocError, AllocFailed};
@@ -49,18 +52,24 @@ impl ParamErr {
 }
 
 impl From<Memory> for ParamErr {
+    ghost from_gives = { λ _ e. e.kind ≡ OutOfMemory };
+
     fn from(_: Memory) -> Self {
         ParamErr::MEMORY
     }
 }
 
 impl From<AllocError> for ParamErr {
+    ghost from_gives = { λ _ e. e.kind ≡ OutOfMemory };
+
     fn from(_: AllocError) -> Self {
         ParamErr::MEMORY
     }
 }
 
 impl<T: Drop> From<AllocFailed<T>> for ParamErr {
+    ghost from_gives = { λ _ e. e.kind ≡ OutOfMemory };
+
     fn from(_: AllocFailed<T>) -> Self {
         ParamErr::MEMORY
     }

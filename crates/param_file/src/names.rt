@@ -1,5 +1,5 @@
 // The rows of the table of parameters: their names, ranges and defaults.
-ghost use Rattle.std.specs.Prelude.{◌≡◌};
+ghost use Rattle.std.specs.Prelude.{◌≡◌, option_copied};
 
 /// A row of the table of parameters.
 #[derive(Clone, Copy, Debug, PartialEq, Eq)]
@@ -81,10 +81,12 @@ pub(crate) enum Range {
 }
 
 impl ParamName {
-    ghost use Rattle.param_file.specs.Rows.{range_of, IsRange};
+    ghost use Rattle.param_file.specs.Rows.{default_of, is_required, name_of, range_of};
 
     /// The row's name.
-    pub fn as_bytes(self) -> &'static [u8] {
+    pub fn as_bytes(self) -> &'static [u8]
+        ensures { result.now ≡ name_of self }
+    {
         match self {
             ParamName::InitCondFile => b"InitCondFile",
             ParamName::SnapshotFileBase => b"SnapshotFileBase",
@@ -115,8 +117,7 @@ impl ParamName {
 
     /// The values that the row may have.
     pub(crate) fn range(self) -> Range
-        ensures value { result ≡ range_of self }
-        ensures ordered { IsRange result }
+        ensures { result ≡ range_of self }
     {
         match self {
             ParamName::TimeMax => Range::Number(0, 1099511627776),
@@ -139,7 +140,9 @@ impl ParamName {
     }
 
     /// The value of the row where no line names it.
-    pub(crate) fn default(self) -> Option<&'static [u8]> {
+    pub(crate) fn default(self) -> Option<&'static [u8]>
+        ensures { option_copied result ≡ default_of self }
+    {
         match self {
             ParamName::RestartFileBase => Some(b"restart"),
             ParamName::KickFile => Some(b"kicks.txt"),
@@ -157,7 +160,9 @@ impl ParamName {
     }
 
     /// Whether some line has to name the row.
-    pub(crate) fn is_required(self) -> bool {
+    pub(crate) fn is_required(self) -> bool
+        ensures { result ≡ is_required self }
+    {
         matches!(
             self,
             ParamName::InitCondFile
