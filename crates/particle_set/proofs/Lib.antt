@@ -1,2 +1,4 @@
 pub mod MotionLemmas
 pub mod RowLemmas
+pub mod Least
+pub mod Refusals

@@ -1,5 +1,5 @@
 -- Another motion changes no id and no mass.
-use Rattle.std.proofs.Common.{◌≡◌, ℕ, zero, suc, ◌+◌, ◌<◌, ◌≤◌, List, [], ◌∷◌, length, map, sum, sum_by, get_or, refl, ap, sym, ◌∙◌, arith}
+use Rattle.std.proofs.Common.{◌≡◌, ℕ, zero, suc, ◌<◌, List, [], ◌∷◌, length, map, sum, sum_by, get_or, refl, ap, sym, ◌∙◌, arith}
 use Rattle.std.proofs.Math.ListN.{set}
 use Rattle.std.proofs.lemmas.List.Sums.{sum-map}
 use Rattle.nbody_model.specs.Bodies.{BodyData, MotionData, IsValid}

@@ -1,6 +1,7 @@
 // The set of a run's bodies.
-ghost use Rattle.std.specs.Prelude.{◌≡◌, ◌<◌, ◌≤◌, ◌^◌, length, map, IfOk, OnOk, slice_get, Some, All};
-ghost use Rattle.particle_set.specs.Rows.{HasKind, HasMass, body_of};
+ghost use Rattle.std.specs.Prelude.{◌≡◌, ◌<◌, ◌≤◌, ◌^◌, length, map, IfOk, IfErr, OnOk, slice_get, Some, SomeIff, All, IsPermutation};
+ghost use Rattle.std.specs.List.Sorted.{IsNonDecreasingBy};
+ghost use Rattle.particle_set.specs.Rows.{HasKind, HasMass, HasMomentum, IsFirstRefusal, IsMomentumRefusal, IsSetOf, body_of};
 ghost use Rattle.fixed_point.specs.Vectors.{IsAtMost};
 ghost use Rattle.nbody_model.specs.Bodies.{IsValid, total, vector};
 ghost use Rattle.particle_set.specs.Motions.{with_motion_at};
@@ -33,21 +34,36 @@ impl Model for BodySet {
     ghost invariant = { λ s. IsValid s.bodies.items };
 }
 
+// The body of a row, where its momentum is in range.
+fn body_from(row: &Row) -> Option<Body>
+    requires kind { HasKind row.now }
+    requires mass { HasMass row.now }
+    ensures { SomeIff result (HasMomentum row.now) (body_of row.now) }
+{
+    let motion = Motion::new(row.pos, row.mom)?;
+    Some(Body {
+        id: row.id,
+        kind: row.kind,
+        mass: row.mass,
+        motion,
+    })
+}
+
 // The bodies of these rows, or the first id whose momentum is out of range.
 fn bodies_of(alloc: Global, rows: &[Row]) -> Result<Vec<Body>, SetErr>
     requires kinds { All HasKind rows.now }
     requires masses { All HasMass rows.now }
-    ensures { IfOk result (λ bodies. bodies.items ≡ map body_of rows.now) }
+    requires up { IsNonDecreasingBy (λ r. r.id) rows.now }
+    ensures ok { IfOk result (λ bodies. bodies.items ≡ map body_of rows.now) }
+    ensures in_range { OnOk result (All HasMomentum rows.now) }
+    ensures err { IfErr result (IsMomentumRefusal rows.now) }
 {
     let mut bodies = Vec::with_capacity(alloc, rows.len())?;
     for row in rows {
-        let motion = Motion::new(row.pos, row.mom).ok_or(SetErr::MomRange { id: row.id })?;
-        bodies.push(Body {
-            id: row.id,
-            kind: row.kind,
-            mass: row.mass,
-            motion,
-        })?;
+        let Some(body) = body_from(row) else {
+            return Err(SetErr::MomRange { id: row.id });
+        };
+        bodies.push(body)?;
     }
     Ok(bodies)
 }
@@ -64,30 +80,50 @@ fn momentum_of(body: &Body) -> V3
     }
 }
 
+fn sort_by_id(rows: &mut Vec<Row>)
+    ensures permutation { IsPermutation rows.old.items rows.new.items }
+    ensures up { IsNonDecreasingBy (λ r. r.id) rows.new.items }
+{
+    rows.sort_unstable_by_key(|row| row.id);
+}
+
+// The set of rows that ascend in id, or the first reason why there is none.
+fn from_sorted(alloc: Global, rows: &[Row]) -> Result<BodySet, SetErr>
+    requires kinds { All HasKind rows.now }
+    requires few { length rows.now ≤ 1048576 }
+    requires up { IsNonDecreasingBy (λ r. r.id) rows.now }
+    ensures ok { IfOk result (IsSetOf rows.now) }
+    ensures err { IfErr result (IsFirstRefusal rows.now) }
+{
+    if let Some(id) = first_repeated(rows) {
+        return Err(SetErr::Repeated { id });
+    }
+    if let Some(id) = first_massless(rows) {
+        return Err(SetErr::ZeroMass { id });
+    }
+    let sum = mass_of(rows);
+    if MOST_MASS < sum {
+        return Err(SetErr::MassTotal { sum });
+    }
+    let bodies = bodies_of(alloc, rows)?;
+    Ok(BodySet { bodies })
+}
+
 impl BodySet {
     /// The set of these rows, or the first reason why there is none. The rows are spent.
     pub fn from_list(alloc: Global, rows: Vec<Row>) -> Result<BodySet, SetErr>
         requires { All HasKind rows.items }
+        ensures ok { IfOk result (IsSetOf rows.items) }
+        ensures err { IfErr result (IsFirstRefusal rows.items) }
     {
-        let mut rows = rows;
         if MOST_BODIES < rows.len() {
             return Err(SetErr::TooMany {
                 n: rows.len() as u64,
             });
         }
-        rows.sort_unstable_by_key(|row| row.id);
-        if let Some(id) = first_repeated(&rows) {
-            return Err(SetErr::Repeated { id });
-        }
-        if let Some(id) = first_massless(&rows) {
-            return Err(SetErr::ZeroMass { id });
-        }
-        let sum = mass_of(&rows);
-        if MOST_MASS < sum {
-            return Err(SetErr::MassTotal { sum });
-        }
-        let bodies = bodies_of(alloc, &rows)?;
-        Ok(BodySet { bodies })
+        let mut rows = rows;
+        sort_by_id(&mut rows);
+        from_sorted(alloc, &rows)
     }
 
     /// How many bodies there are.

@@ -1,7 +1,7 @@
 // The refusals of rows that stand ascending in id.
 ghost use Rattle.std.specs.Prelude.{◌≡◌, ◌<◌, ◌≤◌, ◌*◌, ◌^◌, ℕ, length, All, IfSome, IfOk, IfNone};
 ghost use Rattle.std.specs.List.Sorted.{IsStrictlyIncreasing, IsNonDecreasingBy};
-ghost use Rattle.particle_set.specs.Rows.{HasMass, ids, total_mass};
+ghost use Rattle.particle_set.specs.Rows.{HasMass, IsLeastId, IsMassless, IsRepeated, ids, total_mass};
 
 use crate::Row;
 
@@ -9,6 +9,7 @@ use crate::Row;
 pub(crate) fn first_repeated(rows: &[Row]) -> Option<u64>
     requires { IsNonDecreasingBy (λ r. r.id) rows.now }
     ensures none { IfNone result (IsStrictlyIncreasing (ids rows.now)) }
+    ensures some { IfSome result (IsLeastId (IsRepeated rows.now) rows.now) }
 {
     for i in 1..rows.len() {
         if rows[i - 1].id == rows[i].id {
@@ -20,7 +21,9 @@ pub(crate) fn first_repeated(rows: &[Row]) -> Option<u64>
 
 // The first id of mass 0.
 pub(crate) fn first_massless(rows: &[Row]) -> Option<u64>
+    requires { IsNonDecreasingBy (λ r. r.id) rows.now }
     ensures none { IfNone result (All HasMass rows.now) }
+    ensures some { IfSome result (IsLeastId IsMassless rows.now) }
 {
     for row in rows {
         if row.mass == 0 {

@@ -1,7 +1,7 @@
-use Rattle.std.proofs.Common.{◌≡◌, ◌+◌, ◌*◌, ◌<◌, ◌≤◌, ◌^◌, length, take, get_or, ap, sym, ◌∙◌, arith}
+use Rattle.std.proofs.Common.{◌≡◌, ◌+◌, ◌*◌, ◌≤◌, length, take, get_or, arith}
 use Rattle.std.proofs.lemmas.List.Sums.{fold_more}
 use Rattle.fixed_point.specs.declared.V3.{V3}
-use Rattle.fixed_point.specs.Vectors.{plus, origin, IsAtMost, FitsEach}
+use Rattle.fixed_point.specs.Vectors.{plus, origin}
 use Rattle.fixed_point.proofs.VectorLemmas.{IsAtMost-plus, FitsEach-from_bound}
 use Rattle.nbody_model.specs.Bodies.{total, BodyData}
 use Rattle.particle_set.proofs.body_set.BodySet.total_momentum.Goals as goal
