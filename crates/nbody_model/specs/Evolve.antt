@@ -85,12 +85,13 @@ abbrev pub ask_if : Bool → List ℕ → Progress → Progress
 ask_if true P p = tell (Asked (only p.bodies P)) p
 ask_if false P p = p
 
--- what is told of a kick of P with the fast part F, after which the bodies are B
-abbrev pub record_of : Rules → ℕ → ℕ → List ℕ → List ℕ → List BodyData → Record
-record_of r tick bin P F B =
+-- what is told of a kick of P with the fast part F: the counts by the bodies B before it, whom it doesn't move, and the
+-- total momentum of the bodies C after it
+abbrev pub record_of : Rules → ℕ → ℕ → List ℕ → List ℕ → List BodyData → List BodyData → Record
+record_of r tick bin P F B C =
     let slow = only B P in
     let quick = only B F in
-    let sum = total B in
+    let sum = total C in
     record {
       tick = tick;
       bin = bin;
@@ -104,11 +105,11 @@ record_of r tick bin P F B =
 -- the kick of P by h in a bin at a tick, with the fast part F: all or nothing, and by h = 0 nothing is refused
 unfoldable pub kick : Rules → ℕ → List ℕ → List ℕ → ℕ → ℕ → Progress → Stepped
 kick r bin P F tick h p =
-    let B = kicked_bodies h P (change r.gravity P F p.bodies) p.bodies in
-    let out : Option (ℕ × ℕ) = if h == 0 then None else first_out (only B P) in
+    let kicked = kicked_bodies h P (change r.gravity P F p.bodies) p.bodies in
+    let out : Option (ℕ × ℕ) = if h == 0 then None else first_out (only kicked P) in
     elim out [
       | Some first ↦ Refused p (MomRange tick bin first.0 first.1)
-      | None ↦ Going (tell (Kicked (record_of r tick bin P F B)) (record p { bodies = B }))
+      | None ↦ Going (tell (Kicked (record_of r tick bin P F p.bodies kicked)) (record p { bodies = kicked }))
     ]
 
 -- a resting point: the run rests here where this is the tick to stop at

@@ -22,4 +22,6 @@ pub mod Fields
 pub mod Passes
 pub mod Texts
 pub mod RestartText
+pub mod Still
+pub mod SessionFiles
 pub mod Worked

@@ -6,6 +6,7 @@ mod field;
 mod forces;
 mod kicks;
 pub mod laws;
+pub mod momenta;
 mod setup;
 pub mod worked;
 
