@@ -11,9 +11,9 @@ pub mod PairForce
 pub mod Covers
 pub mod Walks
 pub mod Force
-pub mod Laws
 pub mod Factors
 pub mod Steps
+pub mod Laws
 pub mod Evolve
 pub mod States
 pub mod Continue

@@ -1,2 +1,4 @@
 // The laws of the definitions, as contracts.
+pub mod forces;
+pub mod steps;
 pub mod walk;
