@@ -1,4 +1,5 @@
 // The laws of the definitions, as contracts.
+pub mod cells;
 pub mod forces;
 pub mod steps;
 pub mod walk;

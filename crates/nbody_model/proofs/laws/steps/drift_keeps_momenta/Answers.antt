@@ -1,4 +1,4 @@
-use Rattle.nbody_model.proofs.Momenta.{drift_momenta}
+use Rattle.nbody_model.proofs.Kept.{drift_momenta}
 use Rattle.nbody_model.proofs.laws.steps.drift_keeps_momenta.Goals as goal
 
 pub returns : goal.returns

@@ -1,4 +1,4 @@
-use Rattle.nbody_model.proofs.Momenta.{kick_total}
+use Rattle.nbody_model.proofs.Kept.{kick_total}
 use Rattle.nbody_model.proofs.laws.steps.kick_keeps_total.Goals as goal
 
 pub returns : goal.returns
