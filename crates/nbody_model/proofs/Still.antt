@@ -25,11 +25,11 @@ filter-mapped : {X Y : Type 0} (t : Y → Bool) (h : X → Y) (xs : List X) → 
 filter-mapped t h [] = refl
 filter-mapped t h (x ∷ xs) = filtered_step h x (filter t (map h xs)) (filter (λ y. t (h y)) xs) (t (h x)) (filter-mapped t h xs)
 
-map-mapped : {X Y Z : Type 0} (f : Y → Z) (h : X → Y) (xs : List X) → map f (map h xs) ≡ map (λ x. f (h x)) xs
+pub map-mapped : {X Y Z : Type 0} (f : Y → Z) (h : X → Y) (xs : List X) → map f (map h xs) ≡ map (λ x. f (h x)) xs
 map-mapped f h [] = refl
 map-mapped f h (x ∷ xs) = λ i. f (h x) ∷ map-mapped f h xs i
 
-map-same : {X Y : Type 0} (f g : X → Y) → ((x : X) → f x ≡ g x) → (xs : List X) → map f xs ≡ map g xs
+pub map-same : {X Y : Type 0} (f g : X → Y) → ((x : X) → f x ≡ g x) → (xs : List X) → map f xs ≡ map g xs
 map-same f g e [] = refl
 map-same f g e (x ∷ xs) = λ i. e x i ∷ map-same f g e xs i
 
@@ -38,7 +38,7 @@ map-same f g e (x ∷ xs) = λ i. e x i ∷ map-same f g e xs i
 members_still : (B : List BodyData) (c : CellData) → members (map still B) c ≡ map still (members B c)
 members_still B c = filter-mapped (λ b. contains c b.motion.pos) still B
 
-positions_still : (B : List BodyData) → positions_of (map still B) ≡ positions_of B
+pub positions_still : (B : List BodyData) → positions_of (map still B) ≡ positions_of B
 positions_still B = map-mapped (λ b. b.motion.pos) still B
 
 mass_still : (ms : List BodyData) → mass_of (map still ms) ≡ mass_of ms

@@ -27,18 +27,42 @@ pub record Progress : Type 0 where
 abbrev pub tell : Happening → Progress → Progress
 tell what p = record p { trail = p.trail ++ what ∷ [] }
 
--- the kicks of a trail, the bodies among which forces were asked, the fast parts and the resting points, in order
+-- of what happened the kicks, the bodies among which forces were asked, the fast parts and the resting points, in order
+abbrev pub record_in : Happening → List Record
+record_in (Kicked entry) = entry ∷ []
+record_in (Binned F) = []
+record_in (Asked B) = []
+record_in (Rested tick) = []
+
 abbrev pub records_of : List Happening → List Record
-records_of trail = flat_map (λ what. elim what [ Kicked entry ↦ entry ∷ [] | Binned F ↦ [] | Asked B ↦ [] | Rested tick ↦ [] ]) trail
+records_of trail = flat_map record_in trail
+
+abbrev pub asked_in : Happening → List (List BodyData)
+asked_in (Asked B) = B ∷ []
+asked_in (Binned F) = []
+asked_in (Kicked entry) = []
+asked_in (Rested tick) = []
 
 abbrev pub asked_of : List Happening → List (List BodyData)
-asked_of trail = flat_map (λ what. elim what [ Asked B ↦ B ∷ [] | Binned F ↦ [] | Kicked entry ↦ [] | Rested tick ↦ [] ]) trail
+asked_of trail = flat_map asked_in trail
+
+abbrev pub bins_in : Happening → List (List ℕ)
+bins_in (Binned F) = F ∷ []
+bins_in (Asked B) = []
+bins_in (Kicked entry) = []
+bins_in (Rested tick) = []
 
 abbrev pub bins_of : List Happening → List (List ℕ)
-bins_of trail = flat_map (λ what. elim what [ Binned F ↦ F ∷ [] | Asked B ↦ [] | Kicked entry ↦ [] | Rested tick ↦ [] ]) trail
+bins_of trail = flat_map bins_in trail
+
+abbrev pub rest_in : Happening → List ℕ
+rest_in (Rested tick) = tick ∷ []
+rest_in (Binned F) = []
+rest_in (Asked B) = []
+rest_in (Kicked entry) = []
 
 abbrev pub rests_of : List Happening → List ℕ
-rests_of trail = flat_map (λ what. elim what [ Rested tick ↦ tick ∷ [] | Binned F ↦ [] | Asked B ↦ [] | Kicked entry ↦ [] ]) trail
+rests_of trail = flat_map rest_in trail
 
 -- why a run is refused: a momentum out of range, at a tick, in a bin, by the least id and its least axis; or no bin
 -- that is short enough, at a tick, by the least id

@@ -23,5 +23,7 @@ pub mod Passes
 pub mod Texts
 pub mod RestartText
 pub mod Still
+pub mod Preserved
+pub mod Conserved
 pub mod SessionFiles
 pub mod Worked

@@ -6,7 +6,6 @@ mod field;
 mod forces;
 mod kicks;
 pub mod laws;
-pub mod momenta;
 mod setup;
 pub mod worked;
 
