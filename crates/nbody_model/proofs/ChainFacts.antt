@@ -3,7 +3,7 @@ use Rattle.std.proofs.Common.{◌≡◌, ℕ, zero, suc, ◌+◌, ◌<◌, ◌�
 use Rattle.std.specs.List.{AllByRecursion}
 use Rattle.std.proofs.lemmas.List.Sums.{sum_by-cons}
 use Rattle.std.proofs.lemmas.Bool.{false≢true, eqb-true, eqb-false, and_from, or_left, cond-true, cond-false}
-use Rattle.cell_space.specs.Cells.{Position, CellData, digit, child, contains, root_cell, same_place, InBox}
+use Rattle.cell_space.specs.Cells.{Position, CellData, digit, child, contains, root_cell, same_place, InBox, AreDisjoint}
 use Rattle.cell_space.proofs.Cells.{digit_contains, digit_below, child_within, child_digit, deepest_one, root_contains}
 use Rattle.nbody_model.specs.Covers.{Opening, leaf, final, step, chain_apart, chain_same, chain, last_of, cover, orient, same_pair}
 use Rattle.nbody_model.proofs.Among.{each-weaker}
@@ -207,3 +207,6 @@ same_last o p q g differ d (suc n) c low h k =
 pub chain-last : (o : Opening) (p q : Position) (g : CellData × CellData → ℕ) → InBox p → InBox q → same_place p q ≡ false → sum_by (at_final o g) (chain o p q) ≡ g (cover o p q)
 unfolding chain cover
 chain-last o p q g box_p box_q differ = same_last o p q g differ (root_cell, root_cell) 32 root_cell (omega arith) (root_contains p box_p) (root_contains q box_q)
+
+pub chains_disjoint : (o : Opening) (p q : Position) → InBox p → InBox q → AllByRecursion (λ x. AreDisjoint x.0 x.1) (chain o p q)
+chains_disjoint o p q u v = each-weaker (IsOnChain p q) (λ x. AreDisjoint x.0 x.1) (λ x h. record { apart = h.apart }) (chain o p q) (chain-on o p q u v)

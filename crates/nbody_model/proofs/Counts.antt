@@ -1,11 +1,12 @@
 -- How often an element stands in a list: lists in which each stands as often have the same sums.
-use Rattle.std.proofs.Common.{◌≡◌, ℕ, ◌+◌, ◌<◌, Bool, true, false, cond, ◌||◌, List, [], ◌∷◌, sum_by, refl, ap, sym, ◌∙◌, arith, ℤ, ◌+ℤ◌}
+use Rattle.std.proofs.Common.{◌≡◌, ℕ, ◌+◌, ◌<◌, Bool, true, false, cond, ◌||◌, List, [], ◌∷◌, sum_by, refl, ap, sym, ◌∙◌, arith, ℤ, ◌+ℤ◌, inl, inr}
 use Rattle.std.specs.Bool.{Decides}
 use Rattle.std.specs.List.{list_any}
 use Rattle.std.proofs.lemmas.List.Sums.{sum_by-cons}
 use Rattle.std.proofs.lemmas.Int.{ints}
-use Rattle.std.proofs.lemmas.Bool.{cond-true, cond-false}
+use Rattle.std.proofs.lemmas.Bool.{cond-true, cond-false, or_left, or_right}
 use Rattle.nbody_model.specs.Covers.{distinct}
+use Rattle.nbody_model.proofs.Among.{Among}
 use Rattle.nbody_model.proofs.Signed.{total_by}
 
 module _ {X : Type 0} (same : X → X → Bool) (exact : (x y : X) → Decides (same x y) (x ≡ y)) where
@@ -69,3 +70,13 @@ module _ {X : Type 0} (same : X → X → Bool) (exact : (x y : X) → Decides (
   pub times-distinct : (z : X) (xs : List X) → times z (distinct same xs) ≡ cond (list_any (same z) xs) 1 0
   times-distinct z [] = refl
   times-distinct z (x ∷ xs) = distinct_step z x xs (list_any (same x) xs) (same z x) refl refl (times-distinct z xs)
+
+  distinct_among : (x y : X) (ys : List X) (b : Bool) → same y y ≡ true → Among x (cond b (distinct same ys) (y ∷ distinct same ys)) → (Among x (distinct same ys) → list_any (same x) ys ≡ true) → (same x y || list_any (same x) ys) ≡ true
+  distinct_among x y ys true e h rest = or_right (same x y) (list_any (same x) ys) (rest h)
+  distinct_among x y ys false e (inl h) rest = or_left (same x y) (list_any (same x) ys) ((exact x y).1 h)
+  distinct_among x y ys false e (inr h) rest = or_right (same x y) (list_any (same x) ys) (rest h)
+
+  -- whatever stands in `distinct` stands in the list
+  pub among-distinct : (x : X) (xs : List X) → Among x (distinct same xs) → list_any (same x) xs ≡ true
+  among-distinct x [] h = absurd h
+  among-distinct x (y ∷ ys) h = distinct_among x y ys (list_any (same y) ys) (itself y) h (λ k. among-distinct x ys k)

@@ -73,7 +73,7 @@ regroup false v true true x = refl
 regroup false v true false x = refl
 regroup false v false b x = refl
 
-sum-below : (f g : ℕ → ℕ) (n : ℕ) → ((k : ℕ) → k < n → f k ≡ g k) → sum_by f (below n) ≡ sum_by g (below n)
+pub sum-below : (f g : ℕ → ℕ) (n : ℕ) → ((k : ℕ) → k < n → f k ≡ g k) → sum_by f (below n) ≡ sum_by g (below n)
 sum-below f g zero h = refl
 sum-below f g (suc n) h = omega (arith, sum_by-cons f n (below n), sum_by-cons g n (below n), h n (omega arith), sum-below f g n (λ k l. h k (omega arith)))
 

@@ -1,5 +1,5 @@
 -- Signed sums over lists.
-use Rattle.std.proofs.Common.{◌≡◌, ℕ, Bool, true, false, cond, List, [], ◌∷◌, sum_by, fold, refl, ap, sym, ◌∙◌, arith, inl, inr, ℤ, pos, ◌+ℤ◌}
+use Rattle.std.proofs.Common.{◌≡◌, ℕ, Bool, true, false, cond, List, [], ◌∷◌, map, sum_by, fold, refl, ap, sym, ◌∙◌, arith, inl, inr, ℤ, pos, ◌+ℤ◌}
 use Rattle.std.specs.List.{filter}
 use Rattle.std.proofs.lemmas.Int.{ints}
 use Rattle.std.proofs.lemmas.List.Sums.{sum_by-cons}
@@ -40,6 +40,10 @@ total_filter_step f x ys false t e = omega (arith, ints, e)
 pub total-filter : {X : Type 0} (p : X → Bool) (f : X → ℤ) (xs : List X) → total_by f (filter p xs) ≡ total_by (λ x. cond (p x) (f x) (pos 0)) xs
 total-filter p f [] = refl
 total-filter p f (x ∷ xs) = total_filter_step f x (filter p xs) (p x) (total_by (λ y. cond (p y) (f y) (pos 0)) xs) (total-filter p f xs)
+
+pub total-mapped : {X Y : Type 0} (f : Y → ℤ) (h : X → Y) (xs : List X) → total_by f (map h xs) ≡ total_by (λ x. f (h x)) xs
+total-mapped f h [] = refl
+total-mapped f h (x ∷ xs) = ap (λ t. f (h x) +ℤ t) (total-mapped f h xs)
 
 -- a sum of natural numbers as a signed one
 pub total-pos : {X : Type 0} (f : X → ℕ) (xs : List X) → total_by (λ x. pos (f x)) xs ≡ pos (sum_by f xs)

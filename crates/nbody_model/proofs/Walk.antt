@@ -1,5 +1,5 @@
 -- What a walk looks at are the visited pairs, and what it finds are the interactions.
-use Rattle.std.proofs.Common.{◌≡◌, ℕ, ◌+◌, ◌≤◌, Bool, true, false, cond, List, [], ◌∷◌, map, sum_by, refl, ap, sym, ◌∙◌, arith, ℤ, pos, ◌+ℤ◌, inl, inr}
+use Rattle.std.proofs.Common.{◌≡◌, ℕ, ◌+◌, ◌≤◌, Bool, true, false, cond, List, [], ◌∷◌, map, sum_by, refl, ap, sym, ◌∙◌, arith, ℤ, pos, inl, inr}
 use Rattle.std.specs.List.{filter, AllByRecursion}
 use Rattle.std.proofs.lemmas.Int.{ints}
 use Rattle.std.proofs.lemmas.List.Sums.{sum_by-cons}
@@ -11,7 +11,7 @@ use Rattle.nbody_model.specs.Walks.{visits, found}
 use Rattle.nbody_model.specs.Laws.{IsFair, IsSound, FindsInteractions, VisitsVisited}
 use Rattle.nbody_model.proofs.Among.{Among, each-among, each-weaker, each-filter}
 use Rattle.nbody_model.proofs.Sums.{sum_by-same, sum_by-one}
-use Rattle.nbody_model.proofs.Signed.{total_by, total-pos, sum_of-totals}
+use Rattle.nbody_model.proofs.Signed.{total_by, total-mapped, total-pos, sum_of-totals}
 use Rattle.nbody_model.proofs.Counts.{times, same_total}
 use Rattle.nbody_model.proofs.Turned.{same_pair-exact}
 use Rattle.nbody_model.proofs.Chains.{parts, hits, both, IsEven}
@@ -20,7 +20,7 @@ use Rattle.nbody_model.proofs.Apart.{Apart, visits-apart}
 use Rattle.nbody_model.proofs.ChainFacts.{IsOnChain, chain-on, chain-once, chain-last, at_final, mark_one}
 use Rattle.nbody_model.proofs.Once.{Holds, Shows, times_shown}
 
-box_of : (o : Opening) → IsSound o → (p : Position) → Among p o.positions → InBox p
+pub box_of : (o : Opening) → IsSound o → (p : Position) → Among p o.positions → InBox p
 box_of o s p h = each-among InBox p o.positions s.in_box h
 
 pub visits-shown : (o : Opening) → IsSound o → Shows o (visits o) (chain o)
@@ -100,11 +100,7 @@ found-shown o s = record {
   once = λ p q z. mark_one z (cover o p q);
 }
 
--- lists in which each stands as often have one sum, mapped or not
-total-mapped : {X Y : Type 0} (f : Y → ℤ) (h : X → Y) (xs : List X) → total_by f (map h xs) ≡ total_by (λ x. f (h x)) xs
-total-mapped f h [] = refl
-total-mapped f h (x ∷ xs) = ap (λ t. f (h x) +ℤ t) (total-mapped f h xs)
-
+-- lists in which each pair stands as often have one sum
 pub totals_agree : (xs ys : List (CellData × CellData)) → ((z : CellData × CellData) → times same_pair same_pair-exact z (map orient xs) ≡ times same_pair same_pair-exact z ys) → (f : CellData × CellData → ℤ) → total_by (λ x. f (orient x)) xs ≡ total_by f ys
 totals_agree xs ys e f = sym (total-mapped f orient xs) ∙ same_total same_pair same_pair-exact f (map orient xs) ys e
 

@@ -27,18 +27,42 @@ pub record Progress : Type 0 where
 abbrev pub tell : Happening → Progress → Progress
 tell what p = record p { trail = p.trail ++ what ∷ [] }
 
--- the kicks of a trail, the bodies among which forces were asked, the fast parts and the resting points, in order
+-- of what happened the kicks, the bodies among which forces were asked, the fast parts and the resting points, in order
+abbrev pub record_in : Happening → List Record
+record_in (Kicked entry) = entry ∷ []
+record_in (Binned F) = []
+record_in (Asked B) = []
+record_in (Rested tick) = []
+
 abbrev pub records_of : List Happening → List Record
-records_of trail = flat_map (λ what. elim what [ Kicked entry ↦ entry ∷ [] | Binned F ↦ [] | Asked B ↦ [] | Rested tick ↦ [] ]) trail
+records_of trail = flat_map record_in trail
+
+abbrev pub asked_in : Happening → List (List BodyData)
+asked_in (Asked B) = B ∷ []
+asked_in (Binned F) = []
+asked_in (Kicked entry) = []
+asked_in (Rested tick) = []
 
 abbrev pub asked_of : List Happening → List (List BodyData)
-asked_of trail = flat_map (λ what. elim what [ Asked B ↦ B ∷ [] | Binned F ↦ [] | Kicked entry ↦ [] | Rested tick ↦ [] ]) trail
+asked_of trail = flat_map asked_in trail
+
+abbrev pub bins_in : Happening → List (List ℕ)
+bins_in (Binned F) = F ∷ []
+bins_in (Asked B) = []
+bins_in (Kicked entry) = []
+bins_in (Rested tick) = []
 
 abbrev pub bins_of : List Happening → List (List ℕ)
-bins_of trail = flat_map (λ what. elim what [ Binned F ↦ F ∷ [] | Asked B ↦ [] | Kicked entry ↦ [] | Rested tick ↦ [] ]) trail
+bins_of trail = flat_map bins_in trail
+
+abbrev pub rest_in : Happening → List ℕ
+rest_in (Rested tick) = tick ∷ []
+rest_in (Binned F) = []
+rest_in (Asked B) = []
+rest_in (Kicked entry) = []
 
 abbrev pub rests_of : List Happening → List ℕ
-rests_of trail = flat_map (λ what. elim what [ Rested tick ↦ tick ∷ [] | Binned F ↦ [] | Asked B ↦ [] | Kicked entry ↦ [] ]) trail
+rests_of trail = flat_map rest_in trail
 
 -- why a run is refused: a momentum out of range, at a tick, in a bin, by the least id and its least axis; or no bin
 -- that is short enough, at a tick, by the least id
@@ -85,12 +109,13 @@ abbrev pub ask_if : Bool → List ℕ → Progress → Progress
 ask_if true P p = tell (Asked (only p.bodies P)) p
 ask_if false P p = p
 
--- what is told of a kick of P with the fast part F, after which the bodies are B
-abbrev pub record_of : Rules → ℕ → ℕ → List ℕ → List ℕ → List BodyData → Record
-record_of r tick bin P F B =
+-- what is told of a kick of P with the fast part F: the counts by the bodies B before it, whom it doesn't move, and the
+-- total momentum of the bodies C after it
+abbrev pub record_of : Rules → ℕ → ℕ → List ℕ → List ℕ → List BodyData → List BodyData → Record
+record_of r tick bin P F B C =
     let slow = only B P in
     let quick = only B F in
-    let sum = total B in
+    let sum = total C in
     record {
       tick = tick;
       bin = bin;
@@ -104,11 +129,11 @@ record_of r tick bin P F B =
 -- the kick of P by h in a bin at a tick, with the fast part F: all or nothing, and by h = 0 nothing is refused
 unfoldable pub kick : Rules → ℕ → List ℕ → List ℕ → ℕ → ℕ → Progress → Stepped
 kick r bin P F tick h p =
-    let B = kicked_bodies h P (change r.gravity P F p.bodies) p.bodies in
-    let out : Option (ℕ × ℕ) = if h == 0 then None else first_out (only B P) in
+    let kicked = kicked_bodies h P (change r.gravity P F p.bodies) p.bodies in
+    let out : Option (ℕ × ℕ) = if h == 0 then None else first_out (only kicked P) in
     elim out [
       | Some first ↦ Refused p (MomRange tick bin first.0 first.1)
-      | None ↦ Going (tell (Kicked (record_of r tick bin P F B)) (record p { bodies = B }))
+      | None ↦ Going (tell (Kicked (record_of r tick bin P F p.bodies kicked)) (record p { bodies = kicked }))
     ]
 
 -- a resting point: the run rests here where this is the tick to stop at

@@ -1,11 +1,20 @@
 -- The laws of the definitions.
-use Rattle.std.specs.Prelude.{◌≡◌, ℕ, sum_by}
+use Rattle.std.specs.Prelude.{◌≡◌, ◌≤◌, ◌<◌, ℕ, ◌+◌, ◌-◌, IsTrue, Option, Some, None, ⊤, List, map, sum_by}
 use Rattle.std.specs.List.{AllByRecursion}
+use Rattle.std.specs.List.Sorted.{IsStrictlyIncreasing}
 use Rattle.fixed_point.specs.declared.V3.{V3}
-use Rattle.fixed_point.specs.Vectors.{sum_of}
-use Rattle.cell_space.specs.Cells.{CellData, InBox}
-use Rattle.nbody_model.specs.Covers.{Opening, orient, interactions, visited}
+use Rattle.fixed_point.specs.Vectors.{origin, sum_of}
+use Rattle.cell_space.specs.Cells.{Position, CellData, InBox, AreDisjoint, child, below}
+use Rattle.nbody_model.specs.Bodies.{BodyData, IsValid, has, only, total}
+use Rattle.nbody_model.specs.Setups.{SetupData}
+use Rattle.nbody_model.specs.Tables.{Gravity, ExpansionData, IsExpansion, Reaches}
+use Rattle.nbody_model.specs.Nodes.{members}
+use Rattle.nbody_model.specs.Moments.{mass_of}
+use Rattle.nbody_model.specs.Covers.{Opening, opening_of, orient, chain, interactions, visited}
 use Rattle.nbody_model.specs.Walks.{found, visits}
+use Rattle.nbody_model.specs.Force.{share_of, forces}
+use Rattle.nbody_model.specs.Factors.{factor, kick_factor, drift_factor}
+use Rattle.nbody_model.specs.Steps.{change, kicked_bodies, drift}
 
 -- the test that ends a chain early doesn't look at the order of its cells
 abbrev pub IsFair : Opening → Type 0
@@ -32,3 +41,67 @@ pub record VisitsVisited (o : Opening) : Type 0 where
 
 abbrev pub WalkVisitsVisited : Type 0
 WalkVisitsVisited = (o : Opening) → IsSound o → VisitsVisited o
+
+-- bodies in an order and with numbers that the program's bodies have: ids that ascend, masses of at least 1, and
+-- positions in the box
+pub record AreBodies (B : List BodyData) : Type 0 where
+  pub valid : IsValid B
+  pub heavy : AllByRecursion (λ b. 1 ≤ b.mass) B
+  pub in_box : AllByRecursion (λ b. InBox b.motion.pos) B
+
+-- ---- forces
+
+-- the shares that members get of a total add up to it, on each axis, where the ids ascend and there is mass
+abbrev pub SharesAddUp : Type 0
+SharesAddUp = (members : List BodyData) → IsStrictlyIncreasing (map (λ b. b.id) members) → 1 ≤ mass_of members → (total : V3) → sum_of (share_of members total) members ≡ total
+
+-- the forces on all bodies add up to zero
+abbrev pub ForcesCancel : Type 0
+ForcesCancel = (g : Gravity) (B : List BodyData) → AreBodies B → sum_of (λ f. f) (forces g B) ≡ origin
+
+-- over bodies in the box the opening rule is fair, so the laws of walks hold of it
+abbrev pub OpeningIsSound : Type 0
+OpeningIsSound = (s : SetupData) (B : List BodyData) → AllByRecursion (λ b. InBox b.motion.pos) B → IsSound (opening_of s B)
+
+-- ---- kicks and drifts
+
+-- a kick whose changes add up to zero keeps the momentum of all bodies together
+abbrev pub KickKeepsTotal : Type 0
+KickKeepsTotal = (h : ℕ) (P : List ℕ) (change : BodyData → V3) (B : List BodyData) → sum_of change (only B P) ≡ origin → total (kicked_bodies h P change B) ≡ total B
+
+-- the changes of a kick of P, where F is a part of P, add up to zero
+abbrev pub ChangesCancel : Type 0
+ChangesCancel = (g : Gravity) (P F : List ℕ) (B : List BodyData) → AreBodies B → ((id : ℕ) → IsTrue (has F id) → IsTrue (has P id)) → sum_of (change g P F B) (only B P) ≡ origin
+
+-- a drift keeps each momentum
+abbrev pub DriftKeepsMomenta : Type 0
+DriftKeepsMomenta = (s : SetupData) (P : List ℕ) (ticks : ℕ) (B : List BodyData) → map (λ b. b.motion.mom) (drift s P ticks B) ≡ map (λ b. b.motion.mom) B
+
+-- ---- the factors of steps
+
+-- where there is an expansion table, it keeps its limits and reaches a tick
+abbrev pub Spans : Option ExpansionData → ℕ → Type 0
+Spans None tick = ⊤
+Spans (Some e) tick = IsExpansion e × Reaches e tick
+
+-- both factors from one tick to another are what the sums rise by between them, and at most the ticks between
+pub record AreBounded (table : Option ExpansionData) (from to : ℕ) : Type 0 where
+  pub kick_adds : factor (λ e. e.kick) table from + kick_factor table from to ≡ factor (λ e. e.kick) table to
+  pub kick_most : kick_factor table from to ≤ to - from
+  pub drift_adds : factor (λ e. e.drift) table from + drift_factor table from to ≡ factor (λ e. e.drift) table to
+  pub drift_most : drift_factor table from to ≤ to - from
+
+-- both factors lie between 0 and the ticks between
+abbrev pub FactorsAreBounded : Type 0
+FactorsAreBounded = (table : Option ExpansionData) (from to : ℕ) → from ≤ to → Spans table to → AreBounded table from to
+
+-- ---- cells, chains and covers
+
+-- each body of a cell is in exactly one of its children, and no other body is: over the members of the children every
+-- weight has the sum that it has over those of the cell
+abbrev pub MembersPart : Type 0
+MembersPart = (B : List BodyData) (c : CellData) → c.level < 32 → (weight : BodyData → ℕ) → sum_by (λ k. sum_by weight (members B (child c k))) (below 8) ≡ sum_by weight (members B c)
+
+-- two different cells on a chain have nothing in common
+abbrev pub ChainsAreDisjoint : Type 0
+ChainsAreDisjoint = (o : Opening) (p q : Position) → InBox p → InBox q → AllByRecursion (λ x. AreDisjoint x.0 x.1) (chain o p q)

@@ -11,9 +11,9 @@ pub mod PairForce
 pub mod Covers
 pub mod Walks
 pub mod Force
-pub mod Laws
 pub mod Factors
 pub mod Steps
+pub mod Laws
 pub mod Evolve
 pub mod States
 pub mod Continue
@@ -22,4 +22,8 @@ pub mod Fields
 pub mod Passes
 pub mod Texts
 pub mod RestartText
+pub mod Still
+pub mod Preserved
+pub mod Conserved
+pub mod SessionFiles
 pub mod Worked

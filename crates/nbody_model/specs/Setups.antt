@@ -1,5 +1,5 @@
 -- What a run is set up with.
-use Rattle.std.specs.Prelude.{◌≡◌, ℕ, ◌^◌, ◌≤◌, ◌<◌, List, length, slice_index}
+use Rattle.std.specs.Prelude.{◌≡◌, ℕ, ◌+◌, ◌-◌, ◌*◌, ◌/◌, ◌^◌, ◌≤◌, ◌<◌, List, length, slice_index}
 
 -- the settings that fix forces and steps
 pub record SetupData : Type 0 where
@@ -35,3 +35,7 @@ pub record IsSetup (s : SetupData) : Type 0 where
   pub gravity_high : s.gravity ≤ 2 ^ 32
   pub shift_high : s.velocity_shift ≤ 40
   pub softenings : AreSoftenings s.soft
+
+-- the tick at which a run ends: the first end of a base step that isn't before the time asked for
+abbrev pub last_tick : SetupData → ℕ
+last_tick s = (s.time_max + 2 ^ s.top_bin - 1) / 2 ^ s.top_bin * 2 ^ s.top_bin

@@ -1,2 +1,7 @@
 // The laws of the definitions, as contracts.
+pub mod cells;
+pub mod forces;
+pub mod places;
+pub mod sessions;
+pub mod steps;
 pub mod walk;

@@ -1,0 +1,18 @@
+// What whole steps and sessions conserve.
+ghost use Rattle.nbody_model.specs.Conserved.{ContinuesConserve, EvolvesConserve, SessionsConserve};
+
+/// A step conserves ids, kinds, masses and the momentum of all bodies together, and each of its kicks tells that
+/// momentum, however it ends.
+pub fn evolves_conserve()
+    ensures { EvolvesConserve }
+{}
+
+/// The rest of a base step conserves the same.
+pub fn continues_conserve()
+    ensures { ContinuesConserve }
+{}
+
+/// Every session conserves the same, also one that is stopped or refused.
+pub fn sessions_conserve()
+    ensures { SessionsConserve }
+{}
