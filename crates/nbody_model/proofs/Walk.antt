@@ -57,7 +57,7 @@ hits-final o g p q xs =
 final_even : (o : Opening) → IsFair o → (g : CellData × CellData → ℕ) → IsEven g → IsEven (at_final o g)
 final_even o fair g even a b = ap (λ t. cond t (g (a, b)) 0) (final_fair o fair a b) ∙ ap (λ n. cond (final o b a) n 0) (even a b)
 
-abbrev cover_path : Opening → Position → Position → List (CellData × CellData)
+abbrev pub cover_path : Opening → Position → Position → List (CellData × CellData)
 cover_path o p q = cover o p q ∷ []
 
 found_sums : (o : Opening) → IsSound o → (p q : Position) → Among p o.positions → Among q o.positions → same_place p q ≡ false → (g : CellData × CellData → ℕ) → IsEven g → both g p q (found o) ≡ sum_by g (cover_path o p q)

@@ -1,16 +1,16 @@
 -- The laws of the definitions.
-use Rattle.std.specs.Prelude.{◌≡◌, ◌≤◌, ◌<◌, ℕ, ◌+◌, ◌-◌, IsTrue, Option, Some, None, ⊤, List, map, sum_by}
-use Rattle.std.specs.List.{AllByRecursion}
+use Rattle.std.specs.Prelude.{◌≡◌, ◌≤◌, ◌<◌, ℕ, ◌+◌, ◌-◌, Bool, false, ◌&&◌, ◌||◌, if◌then◌else◌, IsTrue, Option, Some, None, ⊤, List, length, map, sum_by}
+use Rattle.std.specs.List.{AllByRecursion, list_any, count_by}
 use Rattle.std.specs.List.Sorted.{IsStrictlyIncreasing}
 use Rattle.fixed_point.specs.declared.V3.{V3}
 use Rattle.fixed_point.specs.Vectors.{origin, sum_of}
-use Rattle.cell_space.specs.Cells.{Position, CellData, InBox, AreDisjoint, child, below}
+use Rattle.cell_space.specs.Cells.{Position, CellData, InBox, AreDisjoint, contains, child, below, same_cell, same_place}
 use Rattle.nbody_model.specs.Bodies.{BodyData, IsValid, has, only, total}
 use Rattle.nbody_model.specs.Setups.{SetupData}
 use Rattle.nbody_model.specs.Tables.{Gravity, ExpansionData, IsExpansion, Reaches}
 use Rattle.nbody_model.specs.Nodes.{members}
 use Rattle.nbody_model.specs.Moments.{mass_of}
-use Rattle.nbody_model.specs.Covers.{Opening, opening_of, orient, chain, interactions, visited}
+use Rattle.nbody_model.specs.Covers.{Opening, opening_of, orient, same_pair, chain, cover, interactions, visited}
 use Rattle.nbody_model.specs.Walks.{found, visits}
 use Rattle.nbody_model.specs.Force.{share_of, forces}
 use Rattle.nbody_model.specs.Factors.{factor, kick_factor, drift_factor}
@@ -105,3 +105,35 @@ MembersPart = (B : List BodyData) (c : CellData) → c.level < 32 → (weight : 
 -- two different cells on a chain have nothing in common
 abbrev pub ChainsAreDisjoint : Type 0
 ChainsAreDisjoint = (o : Opening) (p q : Position) → InBox p → InBox q → AllByRecursion (λ x. AreDisjoint x.0 x.1) (chain o p q)
+
+-- one of a pair of cells contains p, and the other one q
+abbrev pub parts_two : Position → Position → CellData × CellData → Bool
+parts_two p q x = (contains x.0 p && contains x.1 q) || (contains x.0 q && contains x.1 p)
+
+-- exactly one interaction parts two bodies, and it is their cover
+pub record HasOneCover (o : Opening) (p q : Position) : Type 0 where
+  pub one : count_by (parts_two p q) (interactions o) ≡ 1
+  pub there : IsTrue (list_any (same_pair (orient (cover o p q))) (interactions o))
+  pub parted : IsTrue (parts_two p q (orient (cover o p q)))
+
+-- two bodies at different positions have exactly one cover
+abbrev pub EachTwoHaveOneCover : Type 0
+EachTwoHaveOneCover = (o : Opening) → IsSound o → (p q : Position) → IsTrue (list_any (same_place p) o.positions) → IsTrue (list_any (same_place q) o.positions) → same_place p q ≡ false → HasOneCover o p q
+
+-- a pair has a cell
+abbrev pub has_cell : CellData → CellData × CellData → Bool
+has_cell c x = same_cell c x.0 || same_cell c x.1
+
+-- the other cell of a pair that has a cell
+abbrev pub partner : CellData → CellData × CellData → CellData
+partner c x = if same_cell c x.0 then x.1 else x.0
+
+-- the partners of a cell in different interactions have nothing in common
+abbrev pub PartnersAreDisjoint : Type 0
+PartnersAreDisjoint = (o : Opening) → IsSound o → (c : CellData) (x y : CellData × CellData) →
+    IsTrue (list_any (same_pair x) (interactions o)) → IsTrue (list_any (same_pair y) (interactions o)) → same_pair x y ≡ false →
+    IsTrue (has_cell c x) → IsTrue (has_cell c y) → AreDisjoint (partner c x) (partner c y)
+
+-- a cell has at most as many interactions as there are bodies
+abbrev pub PartnersAreFew : Type 0
+PartnersAreFew = (o : Opening) → IsSound o → (c : CellData) → count_by (has_cell c) (interactions o) ≤ length o.positions
