@@ -1,5 +1,5 @@
 // What holds of cells, chains and covers.
-ghost use Rattle.nbody_model.specs.Laws.{ChainsAreDisjoint, EachTwoHaveOneCover, MembersPart, PartnersAreDisjoint, PartnersAreFew};
+ghost use Rattle.nbody_model.specs.Laws.{ChainsAreDisjoint, EachTwoHaveOneCover, MembersPart, PairsOfNodes, PartnersAreDisjoint, PartnersAreFew};
 
 /// Each member of a cell is a member of exactly one of its children, and there are no others.
 pub fn members_part()
@@ -24,4 +24,9 @@ pub fn partners_are_disjoint()
 /// A node has at most as many interactions as there are bodies.
 pub fn partners_are_few()
     ensures { PartnersAreFew }
+{}
+
+/// Interactions and visited pairs are pairs of nodes with nothing in common, and none stands twice.
+pub fn pairs_of_nodes()
+    ensures { PairsOfNodes }
 {}
