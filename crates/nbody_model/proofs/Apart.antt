@@ -15,15 +15,15 @@ pub record AreApart (o : Opening) (a b : CellData) : Type 0 where
   pub apart : (p : Position) → contains a p ≡ true → contains b p ≡ true → ⊥
 
 -- d has a member and lies in a
-record LiesIn (o : Opening) (a d : CellData) : Type 0 where
-  member : has_member o d ≡ true
-  within : (p : Position) → contains d p ≡ true → contains a p ≡ true
+pub record LiesIn (o : Opening) (a d : CellData) : Type 0 where
+  pub member : has_member o d ≡ true
+  pub within : (p : Position) → contains d p ≡ true → contains a p ≡ true
 
 abbrev pub Apart : Opening → CellData × CellData → Type 0
 Apart o x = AreApart o x.0 x.1
 
 -- each two elements, the earlier one first
-abbrev EachTwo : {X : Type 0} → (X → X → Type 0) → List X → Type 0
+abbrev pub EachTwo : {X : Type 0} → (X → X → Type 0) → List X → Type 0
 EachTwo R [] = Unit {0}
 EachTwo R (x ∷ xs) = AllByRecursion (R x) xs × EachTwo R xs
 
@@ -60,7 +60,7 @@ kids_lie : (o : Opening) (c : CellData) → c.level < 32 → AllByRecursion (Lie
 kids_lie o c low = each-map (λ m. (m < 8) × (has_member o (child c m) ≡ true)) (LiesIn o c) (child c) (λ k h. record { member = h.1; within = λ p. child_within c k p low h.0 })
     (filter (λ k. has_member o (child c k)) (below 8)) (kept_below (λ k. has_member o (child c k)) 8)
 
-kids_two : (o : Opening) (c : CellData) → c.level < 32 → EachTwo (AreApart o) (kids o c)
+pub kids_two : (o : Opening) (c : CellData) → c.level < 32 → EachTwo (AreApart o) (kids o c)
 kids_two o c low = two-map (Two (λ k. has_member o (child c k)) 8) (AreApart o) (child c)
     (λ k m h. record { first = h.2; second = h.3; apart = λ p a b. omega (arith, h.0, child_digit c k p low h.1 a, child_digit c m p low (omega (arith, h.0, h.1)) b) })
     (filter (λ k. has_member o (child c k)) (below 8)) (two_below (λ k. has_member o (child c k)) 8)
@@ -69,10 +69,10 @@ down_step : (o : Opening) (c : CellData) (b : Bool) → leaf o c ≡ b → has_m
 down_step o c true e h = (record { member = h; within = λ p e. e }, tt)
 down_step o c false e h = kids_lie o c (shallow o c e)
 
-down_lie : (o : Opening) (c : CellData) → has_member o c ≡ true → AllByRecursion (LiesIn o c) (down o c)
+pub down_lie : (o : Opening) (c : CellData) → has_member o c ≡ true → AllByRecursion (LiesIn o c) (down o c)
 down_lie o c h = down_step o c (leaf o c) refl h
 
-inner : (o : Opening) (a b d e : CellData) → AreApart o a b → LiesIn o a d → LiesIn o b e → AreApart o d e
+pub inner : (o : Opening) (a b d e : CellData) → AreApart o a b → LiesIn o a d → LiesIn o b e → AreApart o d e
 inner o a b d e h u v = record { first = u.member; second = v.member; apart = λ p x y. h.apart p (u.within p x) (v.within p y) }
 
 apart_step : (o : Opening) (n : ℕ) (a b : CellData) (t : Bool) → AreApart o a b → ((d e : CellData) → AreApart o d e → AllByRecursion (Apart o) (visits_apart o n d e)) →

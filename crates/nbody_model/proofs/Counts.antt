@@ -80,3 +80,12 @@ module _ {X : Type 0} (same : X → X → Bool) (exact : (x y : X) → Decides (
   pub among-distinct : (x : X) (xs : List X) → Among x (distinct same xs) → list_any (same x) xs ≡ true
   among-distinct x [] h = absurd h
   among-distinct x (y ∷ ys) h = distinct_among x y ys (list_any (same y) ys) (itself y) h (λ k. among-distinct x ys k)
+
+  any_step : (z y : X) (ys : List X) (b : Bool) → same z y ≡ b → 0 < times z (y ∷ ys) → (0 < times z ys → list_any (same z) ys ≡ true) → (b || list_any (same z) ys) ≡ true
+  any_step z y ys true e h rest = refl
+  any_step z y ys false e h rest = rest (omega (arith, h, times-cons z y ys, cond-false {A = ℕ} (same y z) 1 0 (turned y z ∙ e)))
+
+  -- what stands in a list more than no times is there
+  pub any-times : (z : X) (ys : List X) → 0 < times z ys → list_any (same z) ys ≡ true
+  any-times z [] h = absurd (omega (arith, h))
+  any-times z (y ∷ ys) h = any_step z y ys (same z y) refl h (λ k. any-times z ys k)

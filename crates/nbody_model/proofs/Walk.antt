@@ -8,17 +8,17 @@ use Rattle.fixed_point.specs.Vectors.{sum_of}
 use Rattle.cell_space.specs.Cells.{Position, CellData, same_place, InBox, root_cell}
 use Rattle.nbody_model.specs.Covers.{Opening, final, orient, same_pair, chain, cover, interactions, visited, last_of}
 use Rattle.nbody_model.specs.Walks.{visits, found}
-use Rattle.nbody_model.specs.Laws.{IsFair, IsSound, FindsInteractions, VisitsVisited}
+use Rattle.nbody_model.specs.Laws.{IsFair, IsSound, AreTurned}
 use Rattle.nbody_model.proofs.Among.{Among, each-among, each-weaker, each-filter}
-use Rattle.nbody_model.proofs.Sums.{sum_by-same, sum_by-one}
+use Rattle.nbody_model.proofs.Sums.{sum_by-same, sum_by-mapped, sum_by-one}
 use Rattle.nbody_model.proofs.Signed.{total_by, total-mapped, total-pos, sum_of-totals}
 use Rattle.nbody_model.proofs.Counts.{times, same_total}
 use Rattle.nbody_model.proofs.Turned.{same_pair-exact}
 use Rattle.nbody_model.proofs.Chains.{parts, hits, both, IsEven}
 use Rattle.nbody_model.proofs.Same.{final_fair, hits_visits}
 use Rattle.nbody_model.proofs.Apart.{Apart, visits-apart}
-use Rattle.nbody_model.proofs.ChainFacts.{IsOnChain, chain-on, chain-once, chain-last, at_final, mark_one}
-use Rattle.nbody_model.proofs.Once.{Holds, Shows, times_shown}
+use Rattle.nbody_model.proofs.ChainFacts.{IsOnChain, chain-on, chain-once, chain-last, at_final, mark, mark_one}
+use Rattle.nbody_model.proofs.Once.{Holds, Shows, times_shown, mark_even}
 
 pub box_of : (o : Opening) → IsSound o → (p : Position) → Among p o.positions → InBox p
 box_of o s p h = each-among InBox p o.positions s.in_box h
@@ -57,7 +57,7 @@ hits-final o g p q xs =
 final_even : (o : Opening) → IsFair o → (g : CellData × CellData → ℕ) → IsEven g → IsEven (at_final o g)
 final_even o fair g even a b = ap (λ t. cond t (g (a, b)) 0) (final_fair o fair a b) ∙ ap (λ n. cond (final o b a) n 0) (even a b)
 
-abbrev cover_path : Opening → Position → Position → List (CellData × CellData)
+abbrev pub cover_path : Opening → Position → Position → List (CellData × CellData)
 cover_path o p q = cover o p q ∷ []
 
 found_sums : (o : Opening) → IsSound o → (p q : Position) → Among p o.positions → Among q o.positions → same_place p q ≡ false → (g : CellData × CellData → ℕ) → IsEven g → both g p q (found o) ≡ sum_by g (cover_path o p q)
@@ -116,16 +116,28 @@ vectors_agree xs ys e f =
     let c : total_by (λ x. (f (orient x)).z) xs ≡ total_by (λ x. (f x).z) ys = totals_agree xs ys e (λ x. (f x).z) in
     sum_of-totals (λ x. f (orient x)) xs ∙ (λ i. record { x = a i; y = b i; z = c i }) ∙ sym (sum_of-totals f ys)
 
-found_times : (o : Opening) → IsSound o → (z : CellData × CellData) → times same_pair same_pair-exact z (map orient (found o)) ≡ times same_pair same_pair-exact z (interactions o)
+pub found_times : (o : Opening) → IsSound o → (z : CellData × CellData) → times same_pair same_pair-exact z (map orient (found o)) ≡ times same_pair same_pair-exact z (interactions o)
 unfolding interactions
 found_times o s z = times_shown o (found o) (cover_path o) (found-shown o s) z
 
-visits_times : (o : Opening) → IsSound o → (z : CellData × CellData) → times same_pair same_pair-exact z (map orient (visits o)) ≡ times same_pair same_pair-exact z (visited o)
+pub visits_times : (o : Opening) → IsSound o → (z : CellData × CellData) → times same_pair same_pair-exact z (map orient (visits o)) ≡ times same_pair same_pair-exact z (visited o)
 unfolding visited
 visits_times o s z = times_shown o (visits o) (chain o) (visits-shown o s) z
 
-pub finds_interactions : (o : Opening) → IsSound o → FindsInteractions o
-finds_interactions o s = record { counted = sums_agree (found o) (interactions o) (found_times o s); added = vectors_agree (found o) (interactions o) (found_times o s) }
+-- lists in which each pair stands as often
+pub turned_from : (xs ys : List (CellData × CellData)) → ((z : CellData × CellData) → times same_pair same_pair-exact z (map orient xs) ≡ times same_pair same_pair-exact z ys) → AreTurned xs ys
+turned_from xs ys e = record { counted = sums_agree xs ys e; added = vectors_agree xs ys e }
 
-pub visits_visited : (o : Opening) → IsSound o → VisitsVisited o
-visits_visited o s = record { counted = sums_agree (visits o) (visited o) (visits_times o s) }
+-- lists over which each even weight has one sum
+pub turned_alike : (vs xs ys : List (CellData × CellData)) → ((w : CellData × CellData → ℕ) → IsEven w → sum_by w vs ≡ sum_by w xs) → ((z : CellData × CellData) → times same_pair same_pair-exact z (map orient xs) ≡ times same_pair same_pair-exact z ys) → AreTurned vs ys
+turned_alike vs xs ys e h = turned_from vs ys (λ z.
+    sum_by-mapped (λ x. cond (same_pair x z) 1 0) orient vs
+    ∙ e (mark z) (mark_even z)
+    ∙ sym (sum_by-mapped (λ x. cond (same_pair x z) 1 0) orient xs)
+    ∙ h z)
+
+pub finds_interactions : (o : Opening) → IsSound o → AreTurned (found o) (interactions o)
+finds_interactions o s = turned_from (found o) (interactions o) (found_times o s)
+
+pub visits_visited : (o : Opening) → IsSound o → AreTurned (visits o) (visited o)
+visits_visited o s = turned_from (visits o) (visited o) (visits_times o s)

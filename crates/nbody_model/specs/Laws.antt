@@ -1,17 +1,18 @@
 -- The laws of the definitions.
-use Rattle.std.specs.Prelude.{◌≡◌, ◌≤◌, ◌<◌, ℕ, ◌+◌, ◌-◌, IsTrue, Option, Some, None, ⊤, List, map, sum_by}
-use Rattle.std.specs.List.{AllByRecursion}
+use Rattle.std.specs.Prelude.{◌≡◌, ◌≤◌, ◌<◌, ℕ, ◌+◌, ◌-◌, Bool, false, ◌&&◌, ◌||◌, if◌then◌else◌, IsTrue, Option, Some, None, ⊤, List, length, map, filter, sum_by}
+use Rattle.std.specs.List.{AllByRecursion, list_any, count_by}
 use Rattle.std.specs.List.Sorted.{IsStrictlyIncreasing}
 use Rattle.fixed_point.specs.declared.V3.{V3}
 use Rattle.fixed_point.specs.Vectors.{origin, sum_of}
-use Rattle.cell_space.specs.Cells.{Position, CellData, InBox, AreDisjoint, child, below}
+use Rattle.cell_space.specs.Cells.{Position, CellData, InBox, AreDisjoint, contains, child, below, same_cell, same_place, before}
 use Rattle.nbody_model.specs.Bodies.{BodyData, IsValid, has, only, total}
 use Rattle.nbody_model.specs.Setups.{SetupData}
 use Rattle.nbody_model.specs.Tables.{Gravity, ExpansionData, IsExpansion, Reaches}
-use Rattle.nbody_model.specs.Nodes.{members}
+use Rattle.nbody_model.specs.Nodes.{members, is_node}
 use Rattle.nbody_model.specs.Moments.{mass_of}
-use Rattle.nbody_model.specs.Covers.{Opening, opening_of, orient, chain, interactions, visited}
-use Rattle.nbody_model.specs.Walks.{found, visits}
+use Rattle.nbody_model.specs.Covers.{Opening, opening_of, orient, same_pair, chain, cover, interactions, visited}
+use Rattle.nbody_model.specs.Walks.{found, visits, reached}
+use Rattle.nbody_model.specs.InOrder.{IsOrderOfChildren, found_in, visits_in, is_visit}
 use Rattle.nbody_model.specs.Force.{share_of, forces}
 use Rattle.nbody_model.specs.Factors.{factor, kick_factor, drift_factor}
 use Rattle.nbody_model.specs.Steps.{change, kicked_bodies, drift}
@@ -25,22 +26,49 @@ pub record IsSound (o : Opening) : Type 0 where
   pub fair : IsFair o
   pub in_box : AllByRecursion InBox o.positions
 
--- each pair that a walk finds, turned with the cell of smaller corner first, is an interaction, and each interaction
--- is found once: over both every weight has one sum
-pub record FindsInteractions (o : Opening) : Type 0 where
-  pub counted : (weight : CellData × CellData → ℕ) → sum_by (λ x. weight (orient x)) (found o) ≡ sum_by weight (interactions o)
-  pub added : (force : CellData × CellData → V3) → sum_of (λ x. force (orient x)) (found o) ≡ sum_of force (interactions o)
+-- the pairs of xs, each turned with the cell of smaller corner first, are those of ys, each as often: over both every
+-- weight has one sum, and every force
+pub record AreTurned (xs ys : List (CellData × CellData)) : Type 0 where
+  pub counted : (weight : CellData × CellData → ℕ) → sum_by (λ x. weight (orient x)) xs ≡ sum_by weight ys
+  pub added : (force : CellData × CellData → V3) → sum_of (λ x. force (orient x)) xs ≡ sum_of force ys
 
 -- what a walk finds are the interactions, each once
 abbrev pub WalkFindsInteractions : Type 0
-WalkFindsInteractions = (o : Opening) → IsSound o → FindsInteractions o
+WalkFindsInteractions = (o : Opening) → IsSound o → AreTurned (found o) (interactions o)
 
--- each pair of different nodes that a walk looks at, turned, is a visited pair, and it looks at each visited pair once
-pub record VisitsVisited (o : Opening) : Type 0 where
-  pub counted : (weight : CellData × CellData → ℕ) → sum_by (λ x. weight (orient x)) (visits o) ≡ sum_by weight (visited o)
-
+-- the pairs of different nodes that a walk looks at are the visited pairs, each once
 abbrev pub WalkVisitsVisited : Type 0
-WalkVisitsVisited = (o : Opening) → IsSound o → VisitsVisited o
+WalkVisitsVisited = (o : Opening) → IsSound o → AreTurned (visits o) (visited o)
+
+-- and so are those among the pairs that it reaches
+abbrev pub WalkReachesVisited : Type 0
+WalkReachesVisited = (o : Opening) → IsSound o → AreTurned (filter is_visit (reached o)) (visited o)
+
+-- a walk in an order finds the interactions, each once, and looks at the visited pairs, each once
+pub record WalksAll (o : Opening) (order : CellData → List CellData) : Type 0 where
+  pub finds : AreTurned (found_in o order) (interactions o)
+  pub looks_at : AreTurned (visits_in o order) (visited o)
+
+-- in whatever order the children of each cell come
+abbrev pub OrderIsFree : Type 0
+OrderIsFree = (o : Opening) → IsSound o → (order : CellData → List CellData) → IsOrderOfChildren o order → WalksAll o order
+
+-- a pair of nodes with nothing in common, not the one of greater corner first
+pub record IsPairOfNodes (o : Opening) (x : CellData × CellData) : Type 0 where
+  pub first : IsTrue (is_node o.positions x.0)
+  pub second : IsTrue (is_node o.positions x.1)
+  pub apart : AreDisjoint x.0 x.1
+  pub turned : before x.1 x.0 ≡ false
+
+-- interactions and visited pairs are such pairs, and none stands twice
+pub record ArePairsOfNodes (o : Opening) : Type 0 where
+  pub interactions_each : AllByRecursion (IsPairOfNodes o) (interactions o)
+  pub interactions_once : (z : CellData × CellData) → count_by (λ x. same_pair x z) (interactions o) ≤ 1
+  pub visited_each : AllByRecursion (IsPairOfNodes o) (visited o)
+  pub visited_once : (z : CellData × CellData) → count_by (λ x. same_pair x z) (visited o) ≤ 1
+
+abbrev pub PairsOfNodes : Type 0
+PairsOfNodes = (o : Opening) → IsSound o → ArePairsOfNodes o
 
 -- bodies in an order and with numbers that the program's bodies have: ids that ascend, masses of at least 1, and
 -- positions in the box
@@ -105,3 +133,35 @@ MembersPart = (B : List BodyData) (c : CellData) → c.level < 32 → (weight : 
 -- two different cells on a chain have nothing in common
 abbrev pub ChainsAreDisjoint : Type 0
 ChainsAreDisjoint = (o : Opening) (p q : Position) → InBox p → InBox q → AllByRecursion (λ x. AreDisjoint x.0 x.1) (chain o p q)
+
+-- one of a pair of cells contains p, and the other one q
+abbrev pub parts_two : Position → Position → CellData × CellData → Bool
+parts_two p q x = (contains x.0 p && contains x.1 q) || (contains x.0 q && contains x.1 p)
+
+-- exactly one interaction parts two bodies, and it is their cover
+pub record HasOneCover (o : Opening) (p q : Position) : Type 0 where
+  pub one : count_by (parts_two p q) (interactions o) ≡ 1
+  pub there : IsTrue (list_any (same_pair (orient (cover o p q))) (interactions o))
+  pub parted : IsTrue (parts_two p q (orient (cover o p q)))
+
+-- two bodies at different positions have exactly one cover
+abbrev pub EachTwoHaveOneCover : Type 0
+EachTwoHaveOneCover = (o : Opening) → IsSound o → (p q : Position) → IsTrue (list_any (same_place p) o.positions) → IsTrue (list_any (same_place q) o.positions) → same_place p q ≡ false → HasOneCover o p q
+
+-- a pair has a cell
+abbrev pub has_cell : CellData → CellData × CellData → Bool
+has_cell c x = same_cell c x.0 || same_cell c x.1
+
+-- the other cell of a pair that has a cell
+abbrev pub partner : CellData → CellData × CellData → CellData
+partner c x = if same_cell c x.0 then x.1 else x.0
+
+-- the partners of a cell in different interactions have nothing in common
+abbrev pub PartnersAreDisjoint : Type 0
+PartnersAreDisjoint = (o : Opening) → IsSound o → (c : CellData) (x y : CellData × CellData) →
+    IsTrue (list_any (same_pair x) (interactions o)) → IsTrue (list_any (same_pair y) (interactions o)) → same_pair x y ≡ false →
+    IsTrue (has_cell c x) → IsTrue (has_cell c y) → AreDisjoint (partner c x) (partner c y)
+
+-- a cell has at most as many interactions as there are bodies
+abbrev pub PartnersAreFew : Type 0
+PartnersAreFew = (o : Opening) → IsSound o → (c : CellData) → count_by (has_cell c) (interactions o) ≤ length o.positions

@@ -13,6 +13,7 @@ pub mod Walks
 pub mod Force
 pub mod Factors
 pub mod Steps
+pub mod InOrder
 pub mod Laws
 pub mod Evolve
 pub mod States

@@ -1,5 +1,5 @@
 // What holds of cells, chains and covers.
-ghost use Rattle.nbody_model.specs.Laws.{ChainsAreDisjoint, MembersPart};
+ghost use Rattle.nbody_model.specs.Laws.{ChainsAreDisjoint, EachTwoHaveOneCover, MembersPart, PairsOfNodes, PartnersAreDisjoint, PartnersAreFew};
 
 /// Each member of a cell is a member of exactly one of its children, and there are no others.
 pub fn members_part()
@@ -9,4 +9,24 @@ pub fn members_part()
 /// Two different cells on a chain have nothing in common.
 pub fn chains_are_disjoint()
     ensures { ChainsAreDisjoint }
+{}
+
+/// Two bodies at different positions have exactly one cover.
+pub fn each_two_have_one_cover()
+    ensures { EachTwoHaveOneCover }
+{}
+
+/// The partners of a node have nothing in common.
+pub fn partners_are_disjoint()
+    ensures { PartnersAreDisjoint }
+{}
+
+/// A node has at most as many interactions as there are bodies.
+pub fn partners_are_few()
+    ensures { PartnersAreFew }
+{}
+
+/// Interactions and visited pairs are pairs of nodes with nothing in common, and none stands twice.
+pub fn pairs_of_nodes()
+    ensures { PairsOfNodes }
 {}
