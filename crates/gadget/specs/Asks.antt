@@ -1,10 +1,12 @@
 -- A command of the code stands for what the words ask.
 use Rattle.std.specs.Prelude.{◌≡◌}
 use Rattle.gadget.specs.declared.command.Command.{Command}
-use Rattle.gadget.specs.declared.command.Command.TheVariants.{Nothing, Run, Unbuilt}
-use Rattle.gadget.specs.Commands.{Asked, nothing, unbuilt, run}
+use Rattle.gadget.specs.declared.command.Command.TheVariants.{Nothing, Run, Check, Show, Unbuilt}
+use Rattle.gadget.specs.Commands.{Asked, nothing, unbuilt, run, check, show}
 
 abbrev pub Means : Command → Asked → Type 0
 Means Nothing a = a ≡ nothing
 Means (Run param ranks) a = a ≡ run param.now ranks
 Means Unbuilt a = a ≡ unbuilt
+Means (Check param) a = a ≡ check param.now
+Means (Show snapshot) a = a ≡ show snapshot.now

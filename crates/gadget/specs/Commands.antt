@@ -6,11 +6,14 @@ use Rattle.store_io.specs.Names.{is_name, is_visible}
 use Rattle.text_words.specs.declared.number.NumErr.{NumErr}
 use Rattle.text_words.specs.Numbers.{whole_number}
 
--- nothing that is known, a command that isn't built, or a run by a parameter file on so many ranks
+-- nothing that is known; a command that isn't built; a run by a parameter file on so many ranks; what such a run
+-- would read; or what a snapshot holds
 pub data Asked : Type 0 where
   nothing : Asked
   unbuilt : Asked
   run : List ℕ → ℕ → Asked
+  check : List ℕ → Asked
+  show : List ℕ → Asked
 
 -- 1 to `most` visible bytes
 abbrev pub is_visible_name : ℕ → List ℕ → Bool
@@ -37,8 +40,8 @@ is_numbered_name word = is_visible_name 221 word
 
 abbrev pub asked_of_two : List ℕ → List ℕ → Asked
 asked_of_two word name =
-    if bytes_eq word (codes "check") then unbuilt_if (is_name name)
-    else (if bytes_eq word (codes "show") then unbuilt_if (is_numbered_name name) else nothing)
+    if bytes_eq word (codes "check") then (if is_name name then check name else nothing)
+    else (if bytes_eq word (codes "show") then (if is_numbered_name name then show name else nothing) else nothing)
 
 abbrev pub asked_of_three : List ℕ → List ℕ → List ℕ → Asked
 asked_of_three word param ranks =

@@ -14,6 +14,8 @@ use text_words::read_whole_number;
 pub enum Command<'a> {
     Nothing,
     Run { param: &'a Text, ranks: u64 },
+    Check { param: &'a Text },
+    Show { snapshot: &'a Text },
     Unbuilt,
 }
 
@@ -75,14 +77,20 @@ fn unbuilt_if<'a>(well_formed: bool) -> Command<'a>
     }
 }
 
-fn of_two<'a>(word: &Text, name: &Text) -> Command<'a>
+fn of_two<'a>(word: &Text, name: &'a Text) -> Command<'a>
     ensures { Means result (asked_of_two word.now name.now) }
 {
     if is_word(word, b"check") {
-        return unbuilt_if(name.is_name());
+        if name.is_name() {
+            return Command::Check { param: name };
+        }
+        return Command::Nothing;
     }
-    if is_word(word, b"show") {
-        return unbuilt_if(is_visible_name(name, LONGEST_NUMBERED));
+    if !is_word(word, b"show") {
+        return Command::Nothing;
+    }
+    if is_visible_name(name, LONGEST_NUMBERED) {
+        return Command::Show { snapshot: name };
     }
     Command::Nothing
 }

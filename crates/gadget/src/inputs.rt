@@ -4,7 +4,7 @@ use crate::unbuilt::{asks_unbuilt, two_at_one_position};
 use output_schedule::{OutputErr, read_outputs};
 use param_file::{ParamErr, ParamKind, Params, read_params};
 use particle_set::{BodySet, SetErr};
-use snap_file::{SnapErr, read_snapshot};
+use snap_file::{Head, SnapErr, read_head, read_snapshot};
 use snapshot_blocks::BlockKind;
 use std::alloc::Global;
 use store_io::{ReadErr, Store, Text, read_whole};
@@ -95,6 +95,23 @@ pub fn load_outputs<S: Store>(
     match &params.output_list_filename {
         Some(name) => read_list(alloc, store, name),
         None => Ok(Vec::new(alloc)),
+    }
+}
+
+/// Reads a snapshot, its head too.
+pub fn load_snapshot<S: Store>(
+    alloc: Global,
+    store: &mut S,
+    name: &Text,
+) -> Result<(Head, BodySet), Status> {
+    let bytes = read_file(alloc, store, name, LONGEST_SNAPSHOT)?;
+    let head = match read_head(alloc, &bytes) {
+        Ok(head) => head,
+        Err(err) => return Err(refused_snapshot(err)),
+    };
+    match read_snapshot(alloc, &bytes) {
+        Ok(set) => Ok((head, set)),
+        Err(err) => Err(refused_snapshot(err)),
     }
 }
 

@@ -4,6 +4,8 @@
 
 mod command;
 mod inputs;
+mod look;
+mod look_texts;
 mod snap_texts;
 mod status;
 mod texts;

@@ -11,15 +11,15 @@ use text_words::{push_number, push_unsigned};
 const USAGE: &[u8] =
     b"usage: gadget run PARAM RANKS | resume PARAM RESTART RANKS | check PARAM | show SNAP | make COUNT SEED NAME";
 
-// Some words, and a number.
-fn push_counted(line: &mut Vec<u8>, words: &[u8], n: u128) -> Result<(), Memory> {
+/// Puts some words and a number behind a line.
+pub fn push_counted(line: &mut Vec<u8>, words: &[u8], n: u128) -> Result<(), Memory> {
     line.extend_from_slice(words)?;
     line.push(b' ')?;
     push_unsigned(line, n)
 }
 
-// Three numbers, each after a space.
-fn push_vector(line: &mut Vec<u8>, v: &[i128; 3]) -> Result<(), Memory> {
+/// Puts three numbers behind a line, each after a space.
+pub fn push_vector(line: &mut Vec<u8>, v: &[i128; 3]) -> Result<(), Memory> {
     for number in v {
         line.push(b' ')?;
         push_number(line, *number)?;

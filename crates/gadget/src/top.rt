@@ -1,6 +1,7 @@
 // The top call: words in, a status out.
 use crate::command::{Command, command_of};
 use crate::inputs::{load_bodies, load_outputs, load_params};
+use crate::look::{check, show};
 use crate::status::Status;
 use crate::texts::{done_line, status_line};
 use run_session::{End, Ended};
@@ -51,6 +52,8 @@ fn answer<S: Store>(alloc: Global, words: &[Text], store: &mut S) -> Result<Vec<
             }
             run(alloc, store, param)
         }
+        Command::Check { param } => check(alloc, store, param),
+        Command::Show { snapshot } => show(alloc, store, snapshot),
     }
 }
 

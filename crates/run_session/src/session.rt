@@ -1,6 +1,9 @@
 // A session: base steps until the last tick, and what is written at each synchronisation.
-ghost use Rattle.std.specs.Prelude.{◌≡◌, ◌≤◌, ◌<◌, ◌^◌, IsTrue, IsSome, OnOk};
+ghost use Rattle.std.specs.Prelude.{◌≡◌, ℕ, ◌≤◌, ◌<◌, ◌^◌, Option, IsTrue, IsSome, IfErr, OnOk};
+ghost use Rattle.run_session.specs.Failures.{HasFailed};
+ghost use Rattle.run_session.specs.Ends.{EndHasCause};
 ghost use Rattle.run_session.specs.Standing.{KeepsFiles, OnOkNone};
+ghost use Rattle.store_io.specs.Causes.{Call};
 
 use crate::files::{Failure, append_to, close_file, create_file, write_snapshot_file};
 use crate::names::{kick_lines, numbered};
@@ -80,6 +83,8 @@ fn write_next_snapshot<S: Store>(
     ensures tells { S.tells store.new ≡ S.tells store.old }
     ensures kept { OnOk result (IsTrue (S.tells store.old) → KeepsFiles (S.file store.old) (S.file store.new)) }
     ensures tick { run.new.tick ≡ run.old.tick }
+    ensures later { S.faults store.old ≤ S.faults store.new }
+    ensures cause { IfErr result (HasFailed (S.faults store.old) (S.faults store.new) (S.last store.new)) }
 {
     let Ok(name) = numbered(alloc, base, run.snapshots) else {
         return Err(Failure::Memory);
@@ -103,6 +108,8 @@ fn synchronise<S: Store>(
     ensures tells { S.tells store.new ≡ S.tells store.old }
     ensures kept { OnOk result (IsTrue (S.tells store.old) → KeepsFiles (S.file store.old) (S.file store.new)) }
     ensures tick { run.new.tick ≡ run.old.tick }
+    ensures later { S.faults store.old ≤ S.faults store.new }
+    ensures cause { IfErr result (HasFailed (S.faults store.old) (S.faults store.new) (S.last store.new)) }
 {
     let is_due = due(outputs, from, run.tick + 1);
     if is_due {
@@ -126,6 +133,8 @@ fn step_with_lines<S: Store>(
     ensures tells { S.tells store.new ≡ S.tells store.old }
     ensures stands { OnOk result (IsTrue (S.tells store.old) → IsSome (S.file store.new params.now.kick_file)) }
     ensures tick { run.new.tick ≡ run.old.tick }
+    ensures later { S.faults store.old ≤ S.faults store.new }
+    ensures cause { IfErr result (HasFailed (S.faults store.old) (S.faults store.new) (S.last store.new)) }
 {
     let mut kicks = Vec::new(alloc);
     let refused = match base_step(alloc, &mut run.set, &params.setup(), run.tick, &mut kicks) {
@@ -153,7 +162,9 @@ fn advance<S: Store>(
     requires early { run.old.tick ≤ 2 ^ 40 }
     ensures tells { S.tells store.new ≡ S.tells store.old }
     ensures stands { OnOk result (IsTrue (S.tells store.old) → IsSome (S.file store.new params.now.kick_file)) }
-    ensures later { OnOkNone result (run.old.tick < run.new.tick) }
+    ensures advances { OnOkNone result (run.old.tick < run.new.tick) }
+    ensures later { S.faults store.old ≤ S.faults store.new }
+    ensures cause { IfErr result (HasFailed (S.faults store.old) (S.faults store.new) (S.last store.new)) }
 {
     if let Some(refusal) = step_with_lines(alloc, run, params, store)? {
         return Ok(Some(refusal));
@@ -176,6 +187,8 @@ fn make_steps<S: Store>(
     requires { IsTrue (S.tells store.old) → IsSome (S.file store.old params.now.kick_file) }
     ensures tells { S.tells store.new ≡ S.tells store.old }
     ensures stands { OnOk result (IsTrue (S.tells store.old) → IsSome (S.file store.new params.now.kick_file)) }
+    ensures later { S.faults store.old ≤ S.faults store.new }
+    ensures cause { IfErr result (HasFailed (S.faults store.old) (S.faults store.new) (S.last store.new)) }
 {
     let time_max = params.time_max;
     'steps: while run.tick < time_max {
@@ -195,6 +208,8 @@ fn make_session<S: Store>(
     store: &mut S,
 ) -> Result<Option<StepEnd>, Failure>
     requires { run.old.tick ≡ 0 }
+    ensures later { S.faults store.old ≤ S.faults store.new }
+    ensures cause { IfErr result (HasFailed (S.faults store.old) (S.faults store.new) (S.last store.new)) }
 {
     create_file(alloc, store, &params.kick_file)?;
     synchronise(alloc, run, params, outputs, 0, store)?;
@@ -203,7 +218,9 @@ fn make_session<S: Store>(
     Ok(refused)
 }
 
-fn refusal(end: StepEnd) -> End {
+fn refusal(end: StepEnd) -> End
+    ensures { (before now : ℕ) (last : Option Call) → EndHasCause before now last result }
+{
     match end {
         StepEnd::MomRange {
             tick,
@@ -221,6 +238,19 @@ fn refusal(end: StepEnd) -> End {
     }
 }
 
+// How a session ended.
+fn end_of(made: Result<Option<StepEnd>, Failure>) -> End
+    ensures { (before now : ℕ) (last : Option Call) → IfErr made (HasFailed before now last)
+        → EndHasCause before now last result }
+{
+    match made {
+        Ok(None) => End::Done,
+        Ok(Some(end)) => refusal(end),
+        Err(Failure::WriteFault { name }) => End::WriteFault { name },
+        Err(Failure::Memory) => End::Memory,
+    }
+}
+
 /// A run from tick 0 on. The kick file is made first; then base steps are made while the tick is below
 /// `TimeMax`, a snapshot is written where a listed time has come and at the end, and the lines of each base
 /// step's kicks stand in the kick file before its snapshot is made. The set is spent.
@@ -230,7 +260,10 @@ pub fn run<S: Store>(
     params: &Params,
     outputs: &[u64],
     store: &mut S,
-) -> Ended {
+) -> Ended
+    ensures later { S.faults store.old ≤ S.faults store.new }
+    ensures cause { EndHasCause (S.faults store.old) (S.faults store.new) (S.last store.new) result.end }
+{
     let mut run = Progress {
         set,
         tick: 0,
@@ -239,12 +272,8 @@ pub fn run<S: Store>(
         kicks: 0,
         interactions: 0,
     };
-    let end = match make_session(alloc, &mut run, params, outputs, store) {
-        Ok(None) => End::Done,
-        Ok(Some(end)) => refusal(end),
-        Err(Failure::WriteFault { name }) => End::WriteFault { name },
-        Err(Failure::Memory) => End::Memory,
-    };
+    let made = make_session(alloc, &mut run, params, outputs, store);
+    let end = end_of(made);
     Ended {
         end,
         tick: run.tick,

@@ -333,13 +333,19 @@ fn words_and_files_are_answered(rt: HostRuntime) -> Result<(), Fail> {
     let alloc = rt.alloc();
     let usage =
         "usage: gadget run PARAM RANKS | resume PARAM RESTART RANKS | check PARAM | show SNAP | make COUNT SEED NAME\n";
-    let cases: [(&[&str], u8, &str); 8] = [
+    let cases: [(&[&str], u8, &str); 10] = [
         (&[], 2, usage),
         (&["run", "param.txt", "0"], 2, usage),
         (&["run", "param.txt", "257"], 2, usage),
         (&["make", "1", "x", "c"], 2, usage),
         (&["run", "param.txt", "2"], 9, "not built\n"),
-        (&["show", "nothing"], 9, "not built\n"),
+        (&["show", "nothing"], 7, "absent nothing\n"),
+        (
+            &["resume", "param.txt", "restart_000", "1"],
+            9,
+            "not built\n",
+        ),
+        (&["make", "1", "2", "c"], 9, "not built\n"),
         (&["run", "nothing", "1"], 7, "absent nothing\n"),
         (&["run", "long", "1"], 8, "too long long 65537\n"),
     ];

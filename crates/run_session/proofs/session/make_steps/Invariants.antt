@@ -1,9 +1,10 @@
-use Rattle.std.proofs.Common.{◌≡◌, ◌-◌, IsTrue, IsSome}
+use Rattle.std.proofs.Common.{◌≡◌, ◌≤◌, ◌-◌, IsTrue, IsSome}
 use Rattle.run_session.proofs.session.make_steps.Given as goal
 
 abbrev pub invariant-steps : goal.invariant-steps
 invariant-steps g l = record {
   tells : g.S.Store.tells l.store ≡ g.S.Store.tells l.initial.store;
+  later : g.S.Store.faults l.initial.store ≤ g.S.Store.faults l.store;
   stands : IsTrue (g.S.Store.tells l.initial.store) → IsSome (g.S.Store.file l.store l.params.kick_file);
 }
 
