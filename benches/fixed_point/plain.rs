@@ -1,6 +1,10 @@
 // The plain forms of the calls of fixed_point, in the same loops.
 #![allow(unused_variables)]
-use std::time::Instant;
+
+extern "C" {
+    // The processor time in microseconds.
+    fn clock() -> i64;
+}
 
 const TURNS: u32 = 5_000_000;
 const HALF: i128 = 0x4000_0000_0000_0000;
@@ -149,44 +153,44 @@ fn time_scale_in_range(turns: u32) -> u64 {
 }
 
 fn main() {
-    let from = Instant::now();
+    let from = unsafe { clock() };
     let sum = time_nothing(std::hint::black_box(TURNS));
-    let each = from.elapsed().as_nanos() as f64 / TURNS as f64;
+    let each = (unsafe { clock() } - from) as f64 * 1000.0 / TURNS as f64;
     println!("{:16} {:>6.1} ns  {:x}", "nothing", each, sum);
-    let from = Instant::now();
+    let from = unsafe { clock() };
     let sum = time_isqrt_64(std::hint::black_box(TURNS));
-    let each = from.elapsed().as_nanos() as f64 / TURNS as f64;
+    let each = (unsafe { clock() } - from) as f64 * 1000.0 / TURNS as f64;
     println!("{:16} {:>6.1} ns  {:x}", "isqrt_64", each, sum);
-    let from = Instant::now();
+    let from = unsafe { clock() };
     let sum = time_isqrt_66(std::hint::black_box(TURNS));
-    let each = from.elapsed().as_nanos() as f64 / TURNS as f64;
+    let each = (unsafe { clock() } - from) as f64 * 1000.0 / TURNS as f64;
     println!("{:16} {:>6.1} ns  {:x}", "isqrt_66", each, sum);
-    let from = Instant::now();
+    let from = unsafe { clock() };
     let sum = time_trunc_div_small(std::hint::black_box(TURNS));
-    let each = from.elapsed().as_nanos() as f64 / TURNS as f64;
+    let each = (unsafe { clock() } - from) as f64 * 1000.0 / TURNS as f64;
     println!("{:16} {:>6.1} ns  {:x}", "trunc_div_small", each, sum);
-    let from = Instant::now();
+    let from = unsafe { clock() };
     let sum = time_trunc_div_large(std::hint::black_box(TURNS));
-    let each = from.elapsed().as_nanos() as f64 / TURNS as f64;
+    let each = (unsafe { clock() } - from) as f64 * 1000.0 / TURNS as f64;
     println!("{:16} {:>6.1} ns  {:x}", "trunc_div_large", each, sum);
-    let from = Instant::now();
+    let from = unsafe { clock() };
     let sum = time_floor_small(std::hint::black_box(TURNS));
-    let each = from.elapsed().as_nanos() as f64 / TURNS as f64;
+    let each = (unsafe { clock() } - from) as f64 * 1000.0 / TURNS as f64;
     println!("{:16} {:>6.1} ns  {:x}", "floor_small", each, sum);
-    let from = Instant::now();
+    let from = unsafe { clock() };
     let sum = time_floor_large(std::hint::black_box(TURNS));
-    let each = from.elapsed().as_nanos() as f64 / TURNS as f64;
+    let each = (unsafe { clock() } - from) as f64 * 1000.0 / TURNS as f64;
     println!("{:16} {:>6.1} ns  {:x}", "floor_large", each, sum);
-    let from = Instant::now();
+    let from = unsafe { clock() };
     let sum = time_wrap_diff(std::hint::black_box(TURNS));
-    let each = from.elapsed().as_nanos() as f64 / TURNS as f64;
+    let each = (unsafe { clock() } - from) as f64 * 1000.0 / TURNS as f64;
     println!("{:16} {:>6.1} ns  {:x}", "wrap_diff", each, sum);
-    let from = Instant::now();
+    let from = unsafe { clock() };
     let sum = time_plus(std::hint::black_box(TURNS));
-    let each = from.elapsed().as_nanos() as f64 / TURNS as f64;
+    let each = (unsafe { clock() } - from) as f64 * 1000.0 / TURNS as f64;
     println!("{:16} {:>6.1} ns  {:x}", "plus", each, sum);
-    let from = Instant::now();
+    let from = unsafe { clock() };
     let sum = time_scale_in_range(std::hint::black_box(TURNS));
-    let each = from.elapsed().as_nanos() as f64 / TURNS as f64;
+    let each = (unsafe { clock() } - from) as f64 * 1000.0 / TURNS as f64;
     println!("{:16} {:>6.1} ns  {:x}", "scale_in_range", each, sum);
 }
