@@ -50,7 +50,8 @@ impl FaultPlan {
     /// Plans that a call fails. The later of two entries for one call counts.
     pub fn plan(&mut self, call: u64, kept: u64) -> Result<(), Memory>
         ensures ok { OnOk result (planned_at self.new call ≡ Some kept) }
-        ensures others { (other : ℕ) → other ≢ call → planned_at self.new other ≡ planned_at self.old other }
+        ensures others { (other : ℕ) → other ≢ call
+            → planned_at self.new other ≡ planned_at self.old other }
         ensures err { OnErr result (planned_at self.new call ≡ planned_at self.old call) }
         ensures calls { self.new.calls ≡ self.old.calls }
         ensures faults { self.new.faults ≡ self.old.faults }

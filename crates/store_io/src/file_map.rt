@@ -15,7 +15,8 @@ pub fn put_in(
     name: &Text,
     bytes: &[u8],
 ) -> Result<(), Memory>
-    ensures ok { OnOk result (ChangesOnly (files_in files.old) (files_in files.new) name.now (Some bytes.now)) }
+    ensures ok { OnOk result (ChangesOnly (files_in files.old) (files_in files.new)
+        name.now (Some bytes.now)) }
     ensures err { OnErr result (files_in files.new ≡ files_in files.old) }
 {
     let key = Vec::from_slice(alloc, name.bytes())?;

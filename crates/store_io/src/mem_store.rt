@@ -38,7 +38,8 @@ impl MemStore {
 
     /// Puts a file in the place of any of this name. It isn't counted as a call.
     pub fn put(&mut self, name: &Text, bytes: &[u8]) -> Result<(), Memory>
-        ensures ok { OnOk result (ChangesOnly (mem_files self.old) (mem_files self.new) name.now (Some bytes.now)) }
+        ensures ok { OnOk result (ChangesOnly (mem_files self.old) (mem_files self.new)
+            name.now (Some bytes.now)) }
         ensures err { OnErr result (mem_files self.new ≡ mem_files self.old) }
         ensures calls { KeepsCalls self.old self.new }
         ensures plan { (call : ℕ) → planned self.new call ≡ planned self.old call }
@@ -98,8 +99,9 @@ impl Store for MemStore {
         ensures answer { LengthAnswers (mem_files self.old name.now) result }
         ensures cause { HasCause (len_failed result) (name.now, true)
             (mem_faults self.old) (mem_faults self.new) (mem_last self.old) (mem_last self.new) }
-        ensures counts { CountsCall (len_failed result) self.old self.new }
-        ensures planned { IsSome (failing self.old) → (result ≡ Err LenErr.Failed) ⊎ (result ≡ Err LenErr.Memory) }
+        ensures counts { CountsCall (len_failed result) (name.now, true) self.old self.new }
+        ensures planned { IsSome (failing self.old)
+            → (result ≡ Err LenErr.Failed) ⊎ (result ≡ Err LenErr.Memory) }
     {
         if self.plan.begin().is_some() {
             self.plan.fail(self.alloc, name, true)?;
@@ -115,11 +117,13 @@ impl Store for MemStore {
         requires { HasRange (mem_files self.old name.now) at (length buf.old) }
         ensures files { mem_files self.new ≡ mem_files self.old }
         ensures closed { mem_closed self.new ≡ mem_closed self.old }
-        ensures filled { OnOk result (buf.new ≡ slice_range (bytes_of (mem_files self.old name.now)) at (at + length buf.new)) }
+        ensures filled { OnOk result (buf.new
+            ≡ slice_range (bytes_of (mem_files self.old name.now)) at (at + length buf.new)) }
         ensures cause { HasCause (io_failed result) (name.now, true)
             (mem_faults self.old) (mem_faults self.new) (mem_last self.old) (mem_last self.new) }
-        ensures counts { CountsCall (io_failed result) self.old self.new }
-        ensures planned { IsSome (failing self.old) → (result ≡ Err IoErr.Failed) ⊎ (result ≡ Err IoErr.Memory) }
+        ensures counts { CountsCall (io_failed result) (name.now, true) self.old self.new }
+        ensures planned { IsSome (failing self.old)
+            → (result ≡ Err IoErr.Failed) ⊎ (result ≡ Err IoErr.Memory) }
     {
         if self.plan.begin().is_some() {
             self.plan.fail(self.alloc, name, true)?;
@@ -133,12 +137,14 @@ impl Store for MemStore {
 
     fn create(&mut self, name: &Text) -> Result<(), IoErr>
         ensures closed { mem_closed self.new ≡ mem_closed self.old }
-        ensures ok { OnOk result (ChangesOnly (mem_files self.old) (mem_files self.new) name.now (Some [])) }
+        ensures ok { OnOk result (ChangesOnly (mem_files self.old) (mem_files self.new)
+            name.now (Some [])) }
         ensures err { OnErr result (mem_files self.new ≡ mem_files self.old) }
         ensures cause { HasCause (io_failed result) (name.now, false)
             (mem_faults self.old) (mem_faults self.new) (mem_last self.old) (mem_last self.new) }
-        ensures counts { CountsCall (io_failed result) self.old self.new }
-        ensures planned { IsSome (failing self.old) → (result ≡ Err IoErr.Failed) ⊎ (result ≡ Err IoErr.Memory) }
+        ensures counts { CountsCall (io_failed result) (name.now, false) self.old self.new }
+        ensures planned { IsSome (failing self.old)
+            → (result ≡ Err IoErr.Failed) ⊎ (result ≡ Err IoErr.Memory) }
     {
         if self.plan.begin().is_some() {
             self.plan.fail(self.alloc, name, false)?;
@@ -153,13 +159,17 @@ impl Store for MemStore {
         ensures closed { mem_closed self.new ≡ mem_closed self.old }
         ensures ok { OnOk result (ChangesOnly (mem_files self.old) (mem_files self.new) name.now
             (Some (bytes_of (mem_files self.old name.now) ++ bytes.now))) }
-        ensures err { OnErr result (AppendsPart (mem_files self.old) (mem_files self.new) name.now bytes.now) }
-        ensures failed { IsTrue (io_failed result) → ChangesOnly (mem_files self.old) (mem_files self.new) name.now
-            (Some (bytes_of (mem_files self.old name.now) ++ kept_part (failing self.old) bytes.now)) }
+        ensures err { OnErr result (AppendsPart (mem_files self.old) (mem_files self.new)
+            name.now bytes.now) }
+        ensures failed { IsTrue (io_failed result)
+            → ChangesOnly (mem_files self.old) (mem_files self.new) name.now
+            (Some (bytes_of (mem_files self.old name.now)
+            ++ kept_part (failing self.old) bytes.now)) }
         ensures cause { HasCause (io_failed result) (name.now, false)
             (mem_faults self.old) (mem_faults self.new) (mem_last self.old) (mem_last self.new) }
-        ensures counts { CountsCall (io_failed result) self.old self.new }
-        ensures planned { IsSome (failing self.old) → (result ≡ Err IoErr.Failed) ⊎ (result ≡ Err IoErr.Memory) }
+        ensures counts { CountsCall (io_failed result) (name.now, false) self.old self.new }
+        ensures planned { IsSome (failing self.old)
+            → (result ≡ Err IoErr.Failed) ⊎ (result ≡ Err IoErr.Memory) }
     {
         let fails = self.plan.begin();
         append_in(&mut self.files, name, first_part(bytes, fails))?;
@@ -177,8 +187,9 @@ impl Store for MemStore {
         ensures err { OnErr result (mem_closed self.new ≡ mem_closed self.old) }
         ensures cause { HasCause (io_failed result) (name.now, false)
             (mem_faults self.old) (mem_faults self.new) (mem_last self.old) (mem_last self.new) }
-        ensures counts { CountsCall (io_failed result) self.old self.new }
-        ensures planned { IsSome (failing self.old) → (result ≡ Err IoErr.Failed) ⊎ (result ≡ Err IoErr.Memory) }
+        ensures counts { CountsCall (io_failed result) (name.now, false) self.old self.new }
+        ensures planned { IsSome (failing self.old)
+            → (result ≡ Err IoErr.Failed) ⊎ (result ≡ Err IoErr.Memory) }
     {
         if self.plan.begin().is_some() {
             self.plan.fail(self.alloc, name, false)?;

@@ -54,7 +54,8 @@ impl MemSink {
     pub fn failing_at(alloc: Global, call: u64) -> MemSink
         ensures bytes { sink_bytes result ≡ [] }
         ensures faults { sink_faults result ≡ 0 }
-        ensures plan { writes_before_fault result ≡ (if nat_lt call (2 ^ 64 - 1) then Some call else None) }
+        ensures plan { writes_before_fault result
+            ≡ (if nat_lt call (2 ^ 64 - 1) then Some call else None) }
     {
         MemSink {
             bytes: Vec::new(alloc),
@@ -82,8 +83,10 @@ impl Sink for MemSink {
         ensures ok { OnOk result (sink_bytes self.new ≡ sink_bytes self.old ++ bytes.now) }
         ensures err { OnErr result (sink_bytes self.new ≡ sink_bytes self.old) }
         ensures cause { Counts (io_failed result) (sink_faults self.old) (sink_faults self.new) }
-        ensures one_fault { IsTrue (io_failed result) → sink_faults self.new ≡ sink_faults self.old + 1 }
-        ensures planned { FailsInTurn (io_failed result) (writes_before_fault self.old) (writes_before_fault self.new) }
+        ensures one_fault { IsTrue (io_failed result)
+            → sink_faults self.new ≡ sink_faults self.old + 1 }
+        ensures planned { FailsInTurn (io_failed result)
+            (writes_before_fault self.old) (writes_before_fault self.new) }
     {
         match self.before_fault {
             Some(0) => {

@@ -7,7 +7,7 @@ use fixed_point::Memory;
 use std::alloc::Global;
 use std::marker::Model;
 
-/// A list of bytes.
+/// A list of bytes, as the name of a file.
 #[derive(Debug, Drop)]
 pub struct Text {
     bytes: Vec<u8>,
@@ -22,6 +22,7 @@ impl Model for Text {
 }
 
 impl Text {
+    /// A copy of the bytes.
     pub fn from_bytes(alloc: Global, bytes: &[u8]) -> Result<Text, Memory>
         ensures { IfOk result (λ text. text ≡ bytes.now) }
     {
@@ -30,6 +31,7 @@ impl Text {
         })
     }
 
+    /// Its bytes.
     pub fn bytes(&self) -> &[u8]
         ensures { result.now ≡ self.now }
     {
@@ -45,6 +47,7 @@ impl Text {
         Ok(Text { bytes })
     }
 
+    /// Whether it has 1 to 200 bytes, each of 0x21 to 0x7E.
     pub fn is_name(&self) -> bool
         ensures { result ≡ is_name self.now }
     {
