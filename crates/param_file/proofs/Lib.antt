@@ -4,6 +4,7 @@ pub mod Faults
 pub mod Fits
 pub mod Made
 pub mod Maps
+pub mod OneReading
 pub mod Plain
 pub mod Rounds
 pub mod Scans

@@ -1,14 +1,17 @@
 // Writing a parameter file.
-ghost use Rattle.std.specs.Prelude.{◌≡◌, ◌++◌, ◌∷◌, [], IfOk, OnOk, option_map, decimal};
+ghost use Rattle.std.specs.Prelude.{◌≡◌, ◌++◌, ◌∷◌, [], IfOk, IfErr, OnOk, option_map, decimal};
 ghost use Rattle.text_words.specs.Comments.{lines_in};
 ghost use Rattle.param_file.specs.Reading.{Spell};
 ghost use Rattle.param_file.specs.Rows.{name_of};
 ghost use Rattle.param_file.specs.Setting.{meant_by};
 ghost use Rattle.param_file.specs.Settings.{text, value_in};
+ghost use Rattle.param_file.specs.declared.errors.ParamKind.TheVariants.{Memory as OutOfMemory};
 ghost use Rattle.param_file.specs.Writing.{word_of, params_text, row_text, rows_text};
 
+use crate::errors::ParamErr;
 use crate::names::{ParamName, ROWS};
 use crate::params::Params;
+use crate::reader::read_params;
 use fixed_point::Memory;
 use std::alloc::Global;
 use store_io::Text;
@@ -107,4 +110,13 @@ pub fn write_params(alloc: Global, params: &Params) -> Result<Vec<u8>, Memory>
 {
     params.are_accepted();
     write_rows(alloc, params, &ROWS)
+}
+
+/// What is written is read as the same settings, or memory is wanting.
+pub fn written_and_read(alloc: Global, params: &Params) -> Result<Params, ParamErr>
+    ensures same { IfOk result (λ again. again ≡ params.now) }
+    ensures err { IfErr result (λ e. e.kind ≡ OutOfMemory) }
+{
+    let bytes = write_params(alloc, params)?;
+    read_params(alloc, &bytes)
 }
