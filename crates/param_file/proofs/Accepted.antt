@@ -100,7 +100,7 @@ in_range word low high e = by (whole_number word) refl e
     by (Err NotDigit) f g = let never = rw f at g in absurd (cc)
     by (Err TooLarge) f g = let never = rw f at g in absurd (cc)
 
-number_in : (range : Range) (word : Option (List ℕ)) (low high : ℕ) → range ≡ Number low high → IfSome word (λ w. value_fault range w ≡ None) → is_some word ≡ true
+pub number_in : (range : Range) (word : Option (List ℕ)) (low high : ℕ) → range ≡ Number low high → IfSome word (λ w. value_fault range w ≡ None) → is_some word ≡ true
     → NumberIn range word low high
 number_in Name word low high r f e = absurd (cc)
 number_in (Number l h) None low high r f e = absurd (cc)

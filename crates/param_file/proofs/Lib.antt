@@ -1,8 +1,13 @@
 pub mod Accepted
+pub mod Decimals
 pub mod Faults
 pub mod Fits
 pub mod Made
 pub mod Maps
+pub mod OneReading
+pub mod Plain
+pub mod Rounds
 pub mod Scans
 pub mod Setups
 pub mod Table
+pub mod Written

@@ -38,7 +38,7 @@ pub record Matches (known : List Said) (p : ParamsData) : Type 0 where
   pub expansion_table_file : word_of_row known ExpansionTableFile ≡ p.expansion_table_file
   pub bin_file : word_of_row known BinFile ≡ p.bin_file
 
-name_row : (i : ℕ) → range_of (get_or name_rows i InitCondFile) ≡ Name
+pub name_row : (i : ℕ) → range_of (get_or name_rows i InitCondFile) ≡ Name
 name_row zero = refl
 name_row (suc zero) = refl
 name_row (suc (suc zero)) = refl

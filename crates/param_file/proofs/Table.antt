@@ -1,10 +1,15 @@
 -- What the rows of the table are, row by row.
-use Rattle.std.proofs.Common.{◌≡◌, ℕ, ◌<◌, length, get_or, Some, None, refl, arith}
+use Rattle.std.proofs.Common.{◌≡◌, ℕ, ◌<◌, Bool, true, false, not, ◌&&◌, List, [], ◌∷◌, length, get_or, Some, None, refl, sym, ap, ◌∙◌, arith}
 use Rattle.std.specs.Prelude.{IfSome}
+use Rattle.std.specs.List.{list_any}
+use Rattle.std.specs.Str.{bytes_eq}
+use Rattle.std.proofs.lemmas.Slice.Eq.{bytes_eq-Decides}
+use Rattle.text_words.specs.Comments.{begins_comment}
 use Rattle.param_file.specs.Reading.{value_fault}
 use Rattle.param_file.specs.Rows.{all_rows, default_of, name_of, range_of, row_named}
 use Rattle.param_file.specs.declared.names.ParamName.{ParamName}
 use Rattle.param_file.specs.declared.names.ParamName.TheVariants.{InitCondFile, SnapshotFileBase, OutputListFilename, EwaldTableFile, RestartFileBase, KickFile, RankTraceFile, TimeMax, LowBin, TopBin, ErrTolTheta, ErrTolIntAccuracy, GravityConstantInternal, VelocityShift, SofteningType1, SofteningType2, SofteningType3, SofteningType4, SofteningType5, RestartEvery, RankTrace, DeliverySeed, ExpansionTableFile, BinFile}
+use Rattle.param_file.proofs.Plain.{IsPlain}
 
 -- each name is that of its row alone
 pub row_named_of : (row : ParamName) → row_named (name_of row) ≡ Some row
@@ -140,3 +145,98 @@ place-lt RankTrace = omega arith
 place-lt DeliverySeed = omega arith
 place-lt ExpansionTableFile = omega arith
 place-lt BinFile = omega arith
+
+-- no name begins a comment
+pub no_comment : (row : ParamName) → begins_comment (name_of row) ≡ false
+no_comment InitCondFile = refl
+no_comment SnapshotFileBase = refl
+no_comment OutputListFilename = refl
+no_comment EwaldTableFile = refl
+no_comment RestartFileBase = refl
+no_comment KickFile = refl
+no_comment RankTraceFile = refl
+no_comment TimeMax = refl
+no_comment LowBin = refl
+no_comment TopBin = refl
+no_comment ErrTolTheta = refl
+no_comment ErrTolIntAccuracy = refl
+no_comment GravityConstantInternal = refl
+no_comment VelocityShift = refl
+no_comment SofteningType1 = refl
+no_comment SofteningType2 = refl
+no_comment SofteningType3 = refl
+no_comment SofteningType4 = refl
+no_comment SofteningType5 = refl
+no_comment RestartEvery = refl
+no_comment RankTrace = refl
+no_comment DeliverySeed = refl
+no_comment ExpansionTableFile = refl
+no_comment BinFile = refl
+
+-- each name is visible
+pub name_plain : (row : ParamName) → IsPlain (name_of row)
+name_plain InitCondFile = record { some = omega arith; visible = refl }
+name_plain SnapshotFileBase = record { some = omega arith; visible = refl }
+name_plain OutputListFilename = record { some = omega arith; visible = refl }
+name_plain EwaldTableFile = record { some = omega arith; visible = refl }
+name_plain RestartFileBase = record { some = omega arith; visible = refl }
+name_plain KickFile = record { some = omega arith; visible = refl }
+name_plain RankTraceFile = record { some = omega arith; visible = refl }
+name_plain TimeMax = record { some = omega arith; visible = refl }
+name_plain LowBin = record { some = omega arith; visible = refl }
+name_plain TopBin = record { some = omega arith; visible = refl }
+name_plain ErrTolTheta = record { some = omega arith; visible = refl }
+name_plain ErrTolIntAccuracy = record { some = omega arith; visible = refl }
+name_plain GravityConstantInternal = record { some = omega arith; visible = refl }
+name_plain VelocityShift = record { some = omega arith; visible = refl }
+name_plain SofteningType1 = record { some = omega arith; visible = refl }
+name_plain SofteningType2 = record { some = omega arith; visible = refl }
+name_plain SofteningType3 = record { some = omega arith; visible = refl }
+name_plain SofteningType4 = record { some = omega arith; visible = refl }
+name_plain SofteningType5 = record { some = omega arith; visible = refl }
+name_plain RestartEvery = record { some = omega arith; visible = refl }
+name_plain RankTrace = record { some = omega arith; visible = refl }
+name_plain DeliverySeed = record { some = omega arith; visible = refl }
+name_plain ExpansionTableFile = record { some = omega arith; visible = refl }
+name_plain BinFile = record { some = omega arith; visible = refl }
+
+-- the row is among these
+abbrev pub has : ParamName → List ParamName → Bool
+has row rows = list_any (λ x. bytes_eq (name_of x) (name_of row)) rows
+
+pub has_all : (row : ParamName) → has row all_rows ≡ true
+has_all InitCondFile = refl
+has_all SnapshotFileBase = refl
+has_all OutputListFilename = refl
+has_all EwaldTableFile = refl
+has_all RestartFileBase = refl
+has_all KickFile = refl
+has_all RankTraceFile = refl
+has_all TimeMax = refl
+has_all LowBin = refl
+has_all TopBin = refl
+has_all ErrTolTheta = refl
+has_all ErrTolIntAccuracy = refl
+has_all GravityConstantInternal = refl
+has_all VelocityShift = refl
+has_all SofteningType1 = refl
+has_all SofteningType2 = refl
+has_all SofteningType3 = refl
+has_all SofteningType4 = refl
+has_all SofteningType5 = refl
+has_all RestartEvery = refl
+has_all RankTrace = refl
+has_all DeliverySeed = refl
+has_all ExpansionTableFile = refl
+has_all BinFile = refl
+
+-- no row stands twice
+abbrev pub are_distinct : List ParamName → Bool
+are_distinct [] = true
+are_distinct (x ∷ rows) = not (has x rows) && are_distinct rows
+
+pub all_distinct : are_distinct all_rows ≡ true
+all_distinct = refl
+
+pub same_row : (x y : ParamName) → bytes_eq (name_of x) (name_of y) ≡ true → x ≡ y
+same_row x y e = let same : Some x ≡ Some y = sym (row_named_of x) ∙ ap row_named ((bytes_eq-Decides (name_of x) (name_of y)).0 e) ∙ row_named_of y in cc

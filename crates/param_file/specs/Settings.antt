@@ -1,6 +1,7 @@
 -- The settings of a run, as data.
-use Rattle.std.specs.Prelude.{◌≡◌, ℕ, ◌<◌, ◌≤◌, ◌^◌, Bool, false, ◌||◌, ◌&&◌, ◌==◌, nat_lt, IsTrue, List, length, get_or, take, Option, None, Some, IfSome, option_map}
+use Rattle.std.specs.Prelude.{◌≡◌, ℕ, ◌<◌, ◌≤◌, ◌^◌, Bool, false, ◌||◌, ◌&&◌, ◌==◌, nat_lt, IsTrue, List, [], ◌∷◌, length, get_or, take, Option, None, Some, IfSome, option_map}
 use Rattle.std.specs.Str.{bytes_eq}
+use Rattle.nbody_model.specs.Setups.{SetupData}
 use Rattle.store_io.specs.Names.{is_name}
 use Rattle.param_file.specs.Rows.{name_rows}
 use Rattle.param_file.specs.declared.names.ParamName.{ParamName}
@@ -137,3 +138,16 @@ pub record IsParams (p : ParamsData) : Type 0 where
   pub bins_ordered : p.low_bin ≤ p.top_bin
   pub named : (row : ParamName) → IfSome (name_in p row) (λ name. IsTrue (is_name name))
   pub apart : (i j : ℕ) → i < j → j < 9 → clash_at (name_in p) i j ≡ false
+
+-- the settings that fix forces and steps
+abbrev pub setup_of : ParamsData → SetupData
+setup_of p = record {
+  time_max = p.time_max;
+  low_bin = p.low_bin;
+  top_bin = p.top_bin;
+  theta = p.err_tol_theta;
+  eta = p.err_tol_int_accuracy;
+  gravity = p.gravity_constant_internal;
+  velocity_shift = p.velocity_shift;
+  soft = 256 ∷ p.softening_type1 ∷ p.softening_type2 ∷ p.softening_type3 ∷ p.softening_type4 ∷ p.softening_type5 ∷ [];
+}

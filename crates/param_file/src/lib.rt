@@ -13,7 +13,7 @@ pub use errors::{ParamErr, ParamKind};
 pub use names::ParamName;
 pub use params::Params;
 pub use reader::read_params;
-pub use writer::write_params;
+pub use writer::{write_params, written_and_read};
 
 #[cfg(test)]
 mod tests;

@@ -70,8 +70,19 @@ impl Model for Params {
 }
 
 impl Params {
+    ghost use Rattle.param_file.specs.Settings.{setup_of, IsParams};
+
+    /// A law without a value: whatever the settings are, they pass every check of a parameter file.
+    pub fn are_accepted(&self)
+        ensures { IsParams self.now }
+    {
+        let _ticks = self.time_max;
+    }
+
     /// What forces and steps go by.
-    pub fn setup(&self) -> Setup {
+    pub fn setup(&self) -> Setup
+        ensures { result ≡ setup_of self.now }
+    {
         Setup {
             time_max: self.time_max,
             low_bin: self.low_bin as u8,

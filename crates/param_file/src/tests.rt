@@ -142,8 +142,9 @@ fn reads_what_is_written(rt: HostRuntime) -> Result<(), Fail> {
         (4, 10, 180, 1638)
     );
     assert_eq!(rt; setup.soft, [256, 4096, 8192, 8192, 8192, 8192]);
+    params.are_accepted();
     let written = write_params(alloc, &params)?;
-    let again = read_params(alloc, &written)?;
+    let again = written_and_read(alloc, &params)?;
     let twice = write_params(alloc, &again)?;
     assert_eq!(rt; twice.as_slice(), written.as_slice());
     Ok(())
