@@ -23,11 +23,11 @@ fn total_of(counts: [u32; 6]) -> u64
         + u64::from(counts[5])
 }
 
-fn check_length(column: Column, bytes: &[u8], count: u64) -> Result<(), SnapErr>
+fn check_length(column: Column, bytes: &[u8], count: u32) -> Result<(), SnapErr>
     requires { count ≤ 1048576 }
     ensures { IfOk result (λ _. length bytes.now ≡ width_of column * count) }
 {
-    let want = u64::from(column.width()) * count;
+    let want = u64::from(column.length(count));
     let got = bytes.len() as u64;
     if got != want {
         return Err(SnapErr::BlockLength {
@@ -65,6 +65,7 @@ pub fn read_snapshot(alloc: Global, bytes: &[u8]) -> Result<BodySet, SnapErr> {
     if MOST_BODIES < count {
         return Err(SnapErr::Bodies(SetErr::TooMany { n: count }));
     }
+    let count = count as u32;
     check_length(Column::Positions, columns.positions, count)?;
     check_length(Column::Momenta, columns.momenta, count)?;
     check_length(Column::Ids, columns.ids, count)?;
