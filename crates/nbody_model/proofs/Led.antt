@@ -1,5 +1,5 @@
 -- What happened before a step doesn't matter to it: with more in front of the trail it does the same.
-use Rattle.std.proofs.Common.{◌≡◌, ℕ, zero, suc, ◌+◌, ◌-◌, ◌^◌, Bool, true, false, cond, not, ◌&&◌, ◌==◌, nat_le, List, [], ◌∷◌, ◌++◌, fold, slice_index, Option, Some, None, refl, ap, ◌∙◌, append_assoc}
+use Rattle.std.proofs.Common.{◌≡◌, ℕ, zero, suc, ◌+◌, ◌-◌, ◌^◌, Bool, true, false, cond, not, ◌&&◌, ◌==◌, nat_le, List, [], ◌∷◌, fold, slice_index, Option, Some, None, refl, ap, ◌∙◌, append_assoc}
 use Rattle.std.specs.List.{range_with_len}
 use Rattle.nbody_model.specs.Bodies.{only}
 use Rattle.nbody_model.specs.Tables.{Rules}
@@ -8,15 +8,8 @@ use Rattle.nbody_model.specs.Steps.{fast, without, drift, change, kicked_bodies,
 use Rattle.nbody_model.specs.Evolve.{Happening, Binned, Asked, Kicked, Rested, Progress, tell, MomRange, StepRange, Stepped, Going, Refused, Resting, ◌>>=◌, inside, is_empty, is_less, ask_if, record_of, kick, rest, close, between, step_by, evolve}
 use Rattle.nbody_model.specs.States.{StateData, low_zeros, began, unfinished, unfinished_fast, fast_parts}
 use Rattle.nbody_model.specs.Continue.{round, continue}
-
--- more in front of what happened
-abbrev pub led : List Happening → Progress → Progress
-led pre p = record p { trail = pre ++ p.trail }
-
-abbrev pub led_step : List Happening → Stepped → Stepped
-led_step pre (Going p) = Going (led pre p)
-led_step pre (Refused p e) = Refused (led pre p) e
-led_step pre (Resting p tick Fs) = Resting (led pre p) tick Fs
+use Rattle.nbody_model.specs.Rests.{rest_of_step, head_or, rest_of_steps}
+use Rattle.nbody_model.specs.Nests.{led, led_step}
 
 abbrev pub Leads : (Progress → Stepped) → Type 0
 Leads f = (pre : List Happening) (p : Progress) → f (led pre p) ≡ led_step pre (f p)
@@ -149,3 +142,25 @@ continue_led r stop σ pre p =
     let bins = range_with_len (v + 1) (s.top_bin - v) in
     ap (λ q. fold (λ step bin. step >>= (λ q. round r stop σ bin q)) (Going q) bins) (ask_led true F pre p) ∙
     fold_led (λ bin q. round r stop σ bin q) (round_led r stop σ) pre (Going (ask_if true F p)) bins
+
+rest_step_led : (r : Rules) (u bin : ℕ) (P F : List ℕ) → Leads (rest_of_step r u bin P F)
+rest_step_led r u bin P F pre p =
+    let t = began bin u in
+    let middle = t + 2 ^ (bin - 1) in
+    let first = bin == low_zeros u + 1 in
+    let ready : Stepped = cond first (Going p) (rest None middle p) in
+    let finer = ready >>= (λ q. evolve r None (bin - 1) F middle q) in
+    let reached : Stepped = cond (nat_le u middle) finer (Going p) in
+    let e : cond first (Going (led pre p)) (rest None middle (led pre p)) ≡ led_step pre ready =
+    (λ i. cond first (Going (led pre p)) (rest_led None middle pre p i)) ∙ cond_led pre first (Going p) (rest None middle p) in
+    let g : cond first (Going (led pre p)) (rest None middle (led pre p)) >>= (λ q. evolve r None (bin - 1) F middle q) ≡ led_step pre finer =
+    ap (λ s. s >>= (λ q. evolve r None (bin - 1) F middle q)) e ∙ bind_led (λ q. evolve r None (bin - 1) F middle q) (evolve_led r None (bin - 1) F middle) pre ready in
+    let k : cond (nat_le u middle) (cond first (Going (led pre p)) (rest None middle (led pre p)) >>= (λ q. evolve r None (bin - 1) F middle q)) (Going (led pre p)) ≡ led_step pre reached =
+    (λ i. cond (nat_le u middle) (g i) (Going (led pre p))) ∙ cond_led pre (nat_le u middle) finer (Going p) in
+    ap (λ s. s >>= (λ q. close r bin P F t q)) k ∙ bind_led (λ q. close r bin P F t q) (close_led r bin P F t) pre reached
+
+pub rest_steps_led : (r : Rules) (u : ℕ) (P : List ℕ) (bin : ℕ) (Fs : List (List ℕ)) (pre : List Happening) (s : Stepped) → rest_of_steps r u P bin Fs (led_step pre s) ≡ led_step pre (rest_of_steps r u P bin Fs s)
+rest_steps_led r u P bin [] pre s = refl
+rest_steps_led r u P bin (F ∷ Fs) pre s =
+    ap (rest_of_steps r u P (bin + 1) Fs) (bind_led (λ p. rest_of_step r u bin (head_or P Fs) F p) (rest_step_led r u bin (head_or P Fs) F) pre s) ∙
+    rest_steps_led r u P (bin + 1) Fs pre (s >>= (λ p. rest_of_step r u bin (head_or P Fs) F p))

@@ -20,18 +20,18 @@ bind_assoc (Going p) f g = refl
 bind_assoc (Refused p e) f g = refl
 bind_assoc (Resting p tick Fs) f g = refl
 
-bind_same : (s : Stepped) (f g : Progress → Stepped) → ((q : Progress) → f q ≡ g q) → s >>= f ≡ s >>= g
+pub bind_same : (s : Stepped) (f g : Progress → Stepped) → ((q : Progress) → f q ≡ g q) → s >>= f ≡ s >>= g
 bind_same (Going p) f g h = h p
 bind_same (Refused p e) f g h = refl
 bind_same (Resting p tick Fs) f g h = refl
 
 -- a step that doesn't rest
-abbrev Moves : Stepped → Type 0
+abbrev pub Moves : Stepped → Type 0
 Moves (Going p) = ⊤
 Moves (Refused p e) = ⊤
 Moves (Resting p tick Fs) = ⊥
 
-inside_moves : (Gs : List (List ℕ)) (s : Stepped) → Moves s → inside Gs s ≡ s
+pub inside_moves : (Gs : List (List ℕ)) (s : Stepped) → Moves s → inside Gs s ≡ s
 inside_moves Gs (Going p) m = refl
 inside_moves Gs (Refused p e) m = refl
 inside_moves Gs (Resting p tick Fs) m = absurd m
@@ -41,12 +41,12 @@ moved Gs (Going p) m = m
 moved Gs (Refused p e) m = m
 moved Gs (Resting p tick Fs) m = m
 
-bind_moves : (s : Stepped) (f : Progress → Stepped) → Moves s → ((q : Progress) → Moves (f q)) → Moves (s >>= f)
+pub bind_moves : (s : Stepped) (f : Progress → Stepped) → Moves s → ((q : Progress) → Moves (f q)) → Moves (s >>= f)
 bind_moves (Going p) f m h = h p
 bind_moves (Refused p e) f m h = m
 bind_moves (Resting p tick Fs) f m h = m
 
-cond_moves : (b : Bool) (s t : Stepped) → Moves s → Moves t → Moves (cond b s t)
+pub cond_moves : (b : Bool) (s t : Stepped) → Moves s → Moves t → Moves (cond b s t)
 cond_moves true s t m n = m
 cond_moves false s t m n = n
 
@@ -54,13 +54,13 @@ out_moves : (p q : Progress) (bin tick : ℕ) (out : Option (ℕ × ℕ)) → Mo
 out_moves p q bin tick None = tt
 out_moves p q bin tick (Some first) = tt
 
-kick_moves : (r : Rules) (bin : ℕ) (P F : List ℕ) (tick h : ℕ) (p : Progress) → Moves (kick r bin P F tick h p)
+pub kick_moves : (r : Rules) (bin : ℕ) (P F : List ℕ) (tick h : ℕ) (p : Progress) → Moves (kick r bin P F tick h p)
 unfolding kick
 kick_moves r bin P F tick h p =
     let C = kicked_bodies h P (change r.gravity P F p.bodies) p.bodies in
     out_moves p (tell (Kicked (record_of r tick bin P F p.bodies C)) (record p { bodies = C })) bin tick (cond (h == 0) None (first_out (only C P)))
 
-close_moves : (r : Rules) (bin : ℕ) (P F : List ℕ) (t : ℕ) (p : Progress) → Moves (close r bin P F t p)
+pub close_moves : (r : Rules) (bin : ℕ) (P F : List ℕ) (t : ℕ) (p : Progress) → Moves (close r bin P F t p)
 unfolding close
 close_moves r bin P F t p =
     let end = t + 2 ^ bin in
@@ -99,7 +99,7 @@ sum-zero n = omega arith
 sum-suc : (n k : ℕ) → n + 1 + k ≡ n + suc k
 sum-suc n k = omega arith
 
-head_more : (P F : List ℕ) (Fs : List (List ℕ)) → head_or P (Fs ++ F ∷ []) ≡ head_or F Fs
+pub head_more : (P F : List ℕ) (Fs : List (List ℕ)) → head_or P (Fs ++ F ∷ []) ≡ head_or F Fs
 head_more P F [] = refl
 head_more P F (G ∷ Fs) = refl
 
@@ -333,7 +333,7 @@ one_step r u c n P t e h f p =
     (kicked_both r u bin n P k (kick_moves r bin P F t (kick_factor r.expansion t (t + half)) known) (λ q. stopping q >>= closes) (λ q. whole q >>= closes)
     (after_kick r u c n P F t e h (f F) (is_empty F)))))
 
-evolve_agrees : (r : Rules) (u bin n : ℕ) (P : List ℕ) (t : ℕ) (p : Progress) → bin ≤ 64 → t ≡ n * 2 ^ bin → Agrees r u bin n P (evolve r (Some u) bin P t p) (evolve r None bin P t p)
+pub evolve_agrees : (r : Rules) (u bin n : ℕ) (P : List ℕ) (t : ℕ) (p : Progress) → bin ≤ 64 → t ≡ n * 2 ^ bin → Agrees r u bin n P (evolve r (Some u) bin P t p) (evolve r None bin P t p)
 unfolding evolve
 evolve_agrees r u zero n P t p h e = refl
 evolve_agrees r u (suc c) n P t p h e =

@@ -27,5 +27,6 @@ pub mod Still
 pub mod Preserved
 pub mod Conserved
 pub mod Rests
+pub mod Nests
 pub mod SessionFiles
 pub mod Worked

@@ -1,5 +1,6 @@
 // What whole steps and sessions conserve.
 ghost use Rattle.nbody_model.specs.Conserved.{ContinuesConserve, EvolvesConserve, SessionsConserve};
+ghost use Rattle.nbody_model.specs.Nests.{ContinueFinishes};
 ghost use Rattle.nbody_model.specs.Rests.{StepsGoOn};
 
 /// A step conserves ids, kinds, masses and the momentum of all bodies together, and each of its kicks tells that
@@ -22,4 +23,10 @@ pub fn sessions_conserve()
 /// without the stop.
 pub fn steps_go_on()
     ensures { StepsGoOn }
+{}
+
+/// What is left of a base step that was stopped at a resting point is finished from its bodies and their depths alone,
+/// as the step would have gone on.
+pub fn continue_finishes()
+    ensures { ContinueFinishes }
 {}
