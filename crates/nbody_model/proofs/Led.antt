@@ -1,22 +1,15 @@
 -- What happened before a step doesn't matter to it: with more in front of the trail it does the same.
-use Rattle.std.proofs.Common.{◌≡◌, ℕ, zero, suc, ◌+◌, ◌-◌, ◌^◌, Bool, true, false, cond, not, ◌&&◌, ◌==◌, nat_le, List, [], ◌∷◌, ◌++◌, map, fold, slice_index, Option, Some, None, refl, ap, sym, ◌∙◌, append_assoc}
+use Rattle.std.proofs.Common.{◌≡◌, ℕ, zero, suc, ◌+◌, ◌-◌, ◌^◌, Bool, true, false, cond, not, ◌&&◌, ◌==◌, nat_le, List, [], ◌∷◌, fold, slice_index, Option, Some, None, refl, ap, ◌∙◌, append_assoc}
 use Rattle.std.specs.List.{range_with_len}
-use Rattle.nbody_model.specs.Bodies.{BodyData, only}
+use Rattle.nbody_model.specs.Bodies.{only}
 use Rattle.nbody_model.specs.Tables.{Rules}
 use Rattle.nbody_model.specs.Factors.{kick_factor, drift_factor}
 use Rattle.nbody_model.specs.Steps.{fast, without, drift, change, kicked_bodies, first_out}
-use Rattle.nbody_model.specs.Evolve.{Happening, Binned, Asked, Kicked, Rested, Progress, tell, Refusal, MomRange, StepRange, Stepped, Going, Refused, Resting, ◌>>=◌, inside, is_empty, is_less, ask_if, record_of, kick, rest, close, between, step_by, evolve}
+use Rattle.nbody_model.specs.Evolve.{Happening, Binned, Asked, Kicked, Rested, Progress, tell, MomRange, StepRange, Stepped, Going, Refused, Resting, ◌>>=◌, inside, is_empty, is_less, ask_if, record_of, kick, rest, close, between, step_by, evolve}
 use Rattle.nbody_model.specs.States.{StateData, low_zeros, began, unfinished, unfinished_fast, fast_parts}
 use Rattle.nbody_model.specs.Continue.{round, continue}
-
--- more in front of what happened
-abbrev pub led : List Happening → Progress → Progress
-led pre p = record p { trail = pre ++ p.trail }
-
-abbrev pub led_step : List Happening → Stepped → Stepped
-led_step pre (Going p) = Going (led pre p)
-led_step pre (Refused p e) = Refused (led pre p) e
-led_step pre (Resting p tick Fs) = Resting (led pre p) tick Fs
+use Rattle.nbody_model.specs.Rests.{rest_of_step, head_or, rest_of_steps}
+use Rattle.nbody_model.specs.Nests.{led, led_step}
 
 abbrev pub Leads : (Progress → Stepped) → Type 0
 Leads f = (pre : List Happening) (p : Progress) → f (led pre p) ≡ led_step pre (f p)
@@ -80,9 +73,9 @@ between_led stop finer f bin F t pre p =
     let two = one >>= (λ q. rest stop middle q) in
     let three = two >>= (λ q. finer F middle q) in
     let e : (finer F t (led pre p) >>= (λ q. rest stop middle q) >>= (λ q. finer F middle q)) ≡ led_step pre three =
-        ap (λ s. s >>= (λ q. rest stop middle q) >>= (λ q. finer F middle q)) (f F t pre p) ∙
-        ap (λ s. s >>= (λ q. finer F middle q)) (bind_led (λ q. rest stop middle q) (rest_led stop middle) pre one) ∙
-        bind_led (λ q. finer F middle q) (f F middle) pre two in
+    ap (λ s. s >>= (λ q. rest stop middle q) >>= (λ q. finer F middle q)) (f F t pre p) ∙
+    ap (λ s. s >>= (λ q. finer F middle q)) (bind_led (λ q. rest stop middle q) (rest_led stop middle) pre one) ∙
+    bind_led (λ q. finer F middle q) (f F middle) pre two in
     (λ i. cond (is_empty F) (Going (led pre p)) (inside (F ∷ []) (e i))) ∙
     (λ i. cond (is_empty F) (Going (led pre p)) (inside_led (F ∷ []) pre three i)) ∙
     cond_led pre (is_empty F) (Going p) (inside (F ∷ []) three)
@@ -100,11 +93,11 @@ step_led r stop finer f bin P t pre p =
     let first = kick r bin P F t h known in
     let second = first >>= (λ q. between stop finer bin F t q) in
     let e : after (ask_if asked F (tell (Binned F) (led pre p))) ≡ led_step pre (after known) =
-        ap (λ q. after (ask_if asked F q)) (tell_led (Binned F) pre p) ∙
-        ap after (ask_led asked F pre (tell (Binned F) p)) ∙
-        ap (λ s. s >>= (λ q. between stop finer bin F t q) >>= (λ q. close r bin P F t q)) (kick_led r bin P F t h pre known) ∙
-        ap (λ s. s >>= (λ q. close r bin P F t q)) (bind_led (λ q. between stop finer bin F t q) (between_led stop finer f bin F t) pre first) ∙
-        bind_led (λ q. close r bin P F t q) (close_led r bin P F t) pre second in
+    ap (λ q. after (ask_if asked F q)) (tell_led (Binned F) pre p) ∙
+    ap after (ask_led asked F pre (tell (Binned F) p)) ∙
+    ap (λ s. s >>= (λ q. between stop finer bin F t q) >>= (λ q. close r bin P F t q)) (kick_led r bin P F t h pre known) ∙
+    ap (λ s. s >>= (λ q. close r bin P F t q)) (bind_led (λ q. between stop finer bin F t q) (between_led stop finer f bin F t) pre first) ∙
+    bind_led (λ q. close r bin P F t q) (close_led r bin P F t) pre second in
     (λ i. cond refused (Refused (led pre p) (StepRange t (slice_index F 0))) (e i)) ∙
     cond_led pre refused (Refused p (StepRange t (slice_index F 0))) (after known)
 
@@ -126,13 +119,13 @@ round_led r stop σ bin pre p =
     let finer = inside Gs (ready >>= (λ q. evolve r stop (bin - 1) F middle q)) in
     let reached : Stepped = cond (nat_le σ.tick middle) finer (Going p) in
     let e : cond first (Going (led pre p)) (rest stop middle (led pre p)) ≡ led_step pre ready =
-        (λ i. cond first (Going (led pre p)) (rest_led stop middle pre p i)) ∙ cond_led pre first (Going p) (rest stop middle p) in
+    (λ i. cond first (Going (led pre p)) (rest_led stop middle pre p i)) ∙ cond_led pre first (Going p) (rest stop middle p) in
     let g : inside Gs (cond first (Going (led pre p)) (rest stop middle (led pre p)) >>= (λ q. evolve r stop (bin - 1) F middle q)) ≡ led_step pre finer =
-        ap (λ s. inside Gs (s >>= (λ q. evolve r stop (bin - 1) F middle q))) e ∙
-        ap (inside Gs) (bind_led (λ q. evolve r stop (bin - 1) F middle q) (evolve_led r stop (bin - 1) F middle) pre ready) ∙
-        inside_led Gs pre (ready >>= (λ q. evolve r stop (bin - 1) F middle q)) in
+    ap (λ s. inside Gs (s >>= (λ q. evolve r stop (bin - 1) F middle q))) e ∙
+    ap (inside Gs) (bind_led (λ q. evolve r stop (bin - 1) F middle q) (evolve_led r stop (bin - 1) F middle) pre ready) ∙
+    inside_led Gs pre (ready >>= (λ q. evolve r stop (bin - 1) F middle q)) in
     let k : cond (nat_le σ.tick middle) (inside Gs (cond first (Going (led pre p)) (rest stop middle (led pre p)) >>= (λ q. evolve r stop (bin - 1) F middle q))) (Going (led pre p)) ≡ led_step pre reached =
-        (λ i. cond (nat_le σ.tick middle) (g i) (Going (led pre p))) ∙ cond_led pre (nat_le σ.tick middle) finer (Going p) in
+    (λ i. cond (nat_le σ.tick middle) (g i) (Going (led pre p))) ∙ cond_led pre (nat_le σ.tick middle) finer (Going p) in
     ap (λ s. s >>= (λ q. close r bin (unfinished r.gravity.setup σ bin) F t q)) k ∙
     bind_led (λ q. close r bin (unfinished r.gravity.setup σ bin) F t q) (close_led r bin (unfinished r.gravity.setup σ bin) F t) pre reached
 
@@ -149,3 +142,25 @@ continue_led r stop σ pre p =
     let bins = range_with_len (v + 1) (s.top_bin - v) in
     ap (λ q. fold (λ step bin. step >>= (λ q. round r stop σ bin q)) (Going q) bins) (ask_led true F pre p) ∙
     fold_led (λ bin q. round r stop σ bin q) (round_led r stop σ) pre (Going (ask_if true F p)) bins
+
+rest_step_led : (r : Rules) (u bin : ℕ) (P F : List ℕ) → Leads (rest_of_step r u bin P F)
+rest_step_led r u bin P F pre p =
+    let t = began bin u in
+    let middle = t + 2 ^ (bin - 1) in
+    let first = bin == low_zeros u + 1 in
+    let ready : Stepped = cond first (Going p) (rest None middle p) in
+    let finer = ready >>= (λ q. evolve r None (bin - 1) F middle q) in
+    let reached : Stepped = cond (nat_le u middle) finer (Going p) in
+    let e : cond first (Going (led pre p)) (rest None middle (led pre p)) ≡ led_step pre ready =
+    (λ i. cond first (Going (led pre p)) (rest_led None middle pre p i)) ∙ cond_led pre first (Going p) (rest None middle p) in
+    let g : cond first (Going (led pre p)) (rest None middle (led pre p)) >>= (λ q. evolve r None (bin - 1) F middle q) ≡ led_step pre finer =
+    ap (λ s. s >>= (λ q. evolve r None (bin - 1) F middle q)) e ∙ bind_led (λ q. evolve r None (bin - 1) F middle q) (evolve_led r None (bin - 1) F middle) pre ready in
+    let k : cond (nat_le u middle) (cond first (Going (led pre p)) (rest None middle (led pre p)) >>= (λ q. evolve r None (bin - 1) F middle q)) (Going (led pre p)) ≡ led_step pre reached =
+    (λ i. cond (nat_le u middle) (g i) (Going (led pre p))) ∙ cond_led pre (nat_le u middle) finer (Going p) in
+    ap (λ s. s >>= (λ q. close r bin P F t q)) k ∙ bind_led (λ q. close r bin P F t q) (close_led r bin P F t) pre reached
+
+pub rest_steps_led : (r : Rules) (u : ℕ) (P : List ℕ) (bin : ℕ) (Fs : List (List ℕ)) (pre : List Happening) (s : Stepped) → rest_of_steps r u P bin Fs (led_step pre s) ≡ led_step pre (rest_of_steps r u P bin Fs s)
+rest_steps_led r u P bin [] pre s = refl
+rest_steps_led r u P bin (F ∷ Fs) pre s =
+    ap (rest_of_steps r u P (bin + 1) Fs) (bind_led (λ p. rest_of_step r u bin (head_or P Fs) F p) (rest_step_led r u bin (head_or P Fs) F) pre s) ∙
+    rest_steps_led r u P (bin + 1) Fs pre (s >>= (λ p. rest_of_step r u bin (head_or P Fs) F p))

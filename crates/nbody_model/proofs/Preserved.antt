@@ -13,7 +13,7 @@ use Rattle.nbody_model.specs.States.{StateData, low_zeros, began, unfinished, un
 use Rattle.nbody_model.specs.Continue.{round, continue}
 use Rattle.nbody_model.specs.Preserved.{IsPart, Holds, IsPreserved}
 
-bound : (I : Progress → Type 0) (s : Stepped) (f : Progress → Stepped) → Holds I s → ((p : Progress) → I p → Holds I (f p)) → Holds I (s >>= f)
+pub bound : (I : Progress → Type 0) (s : Stepped) (f : Progress → Stepped) → Holds I s → ((p : Progress) → I p → Holds I (f p)) → Holds I (s >>= f)
 bound I (Going p) f h g = g p h
 bound I (Refused p e) f h g = h
 bound I (Resting p tick Fs) f h g = h
@@ -27,7 +27,7 @@ either : (I : Progress → Type 0) (b : Bool) (s t : Stepped) → Holds I s → 
 either I true s t h g = h
 either I false s t h g = g
 
-asks : (r : Rules) (I : Progress → Type 0) → IsPreserved r I → (b : Bool) (P : List ℕ) (p : Progress) → I p → I (ask_if b P p)
+pub asks : (r : Rules) (I : Progress → Type 0) → IsPreserved r I → (b : Bool) (P : List ℕ) (p : Progress) → I p → I (ask_if b P p)
 asks r I k true P p h = k.asked (only p.bodies P) p h
 asks r I k false P p h = h
 
@@ -35,7 +35,7 @@ rest_step : (I : Progress → Type 0) (told : Progress) (tick : ℕ) (b : Bool) 
 rest_step I told tick true h = h
 rest_step I told tick false h = h
 
-rests : (r : Rules) (I : Progress → Type 0) → IsPreserved r I → (stop : Option ℕ) (tick : ℕ) (p : Progress) → I p → Holds I (rest stop tick p)
+pub rests : (r : Rules) (I : Progress → Type 0) → IsPreserved r I → (stop : Option ℕ) (tick : ℕ) (p : Progress) → I p → Holds I (rest stop tick p)
 rests r I k None tick p h = k.rested tick p h
 rests r I k (Some s) tick p h = rest_step I (tell (Rested tick) p) tick (s == tick) (k.rested tick p h)
 
@@ -58,7 +58,7 @@ part_of : (u : BodyData → Bool) (P : List ℕ) (B : List BodyData) → IsPart 
 part_of u P [] id h = absurd (false≢true h)
 part_of u P (b ∷ B) id h = filtered_had u b (only B P) P id (has P b.id) refl (part_of u P B id) h
 
-fast_is_part : (g : Gravity) (bin : ℕ) (P : List ℕ) (B : List BodyData) → IsPart (fast g bin (only B P)) P
+pub fast_is_part : (g : Gravity) (bin : ℕ) (P : List ℕ) (B : List BodyData) → IsPart (fast g bin (only B P)) P
 unfolding fast
 fast_is_part g bin P B = part_of (λ b. not (fits g.setup b (force_at g (only B P) b) bin)) P B
 
@@ -69,7 +69,7 @@ closes r I k bin P F t p part h =
     let moved : Progress = record p { bodies = drift r.gravity.setup (without F P) ticks p.bodies } in
     k.kicked bin (t + 2 ^ bin) (kick_factor r.expansion (t + 2 ^ (bin - 1)) (t + 2 ^ bin)) P F (ask_if (is_less F P) P moved) part (asks r I k (is_less F P) P moved (k.drifted (without F P) ticks p h))
 
-betweens : (r : Rules) (I : Progress → Type 0) → IsPreserved r I → (stop : Option ℕ) (finer : List ℕ → ℕ → Progress → Stepped) →
+pub betweens : (r : Rules) (I : Progress → Type 0) → IsPreserved r I → (stop : Option ℕ) (finer : List ℕ → ℕ → Progress → Stepped) →
     ((F : List ℕ) (t : ℕ) (p : Progress) → I p → Holds I (finer F t p)) → (bin : ℕ) (F : List ℕ) (t : ℕ) (p : Progress) → I p → Holds I (between stop finer bin F t p)
 unfolding between
 betweens r I k stop finer f bin F t p h =

@@ -26,5 +26,7 @@ pub mod RestartText
 pub mod Still
 pub mod Preserved
 pub mod Conserved
+pub mod Rests
+pub mod Nests
 pub mod SessionFiles
 pub mod Worked
