@@ -117,7 +117,7 @@ shares_sum : (q : ℤ) (h : BodyData → ℕ) (ms : List BodyData) → total_by 
 shares_sum q h [] = omega (arith, ints, *ℤ-zero q)
 shares_sum q h (m ∷ ms) = omega (arith, ints, shares_sum q h ms, spread q m.mass (mass_of ms), ap (λ t. q *ℤ pos t) (sum_by-cons (λ i. i.mass) m ms), ap pos (sum_by-cons h m ms))
 
-rest_is : (a : ℤ) (b : ℕ) → pos (unsigned_abs (int_rem_euclid a (pos b))) ≡ int_rem_euclid a (pos b)
+pub rest_is : (a : ℤ) (b : ℕ) → pos (unsigned_abs (int_rem_euclid a (pos b))) ≡ int_rem_euclid a (pos b)
 rest_is (pos a) b = refl
 rest_is (negsuc a) b = refl
 

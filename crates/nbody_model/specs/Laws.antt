@@ -1,9 +1,9 @@
 -- The laws of the definitions.
-use Rattle.std.specs.Prelude.{◌≡◌, ◌≤◌, ◌<◌, ℕ, ◌+◌, ◌-◌, Bool, false, ◌&&◌, ◌||◌, if◌then◌else◌, IsTrue, Option, Some, None, ⊤, List, length, map, filter, sum_by}
+use Rattle.std.specs.Prelude.{◌≡◌, ◌≤◌, ◌<◌, ℕ, ◌+◌, ◌-◌, ◌*◌, Bool, false, ◌&&◌, ◌||◌, if◌then◌else◌, IsTrue, Option, Some, None, ⊤, List, length, map, filter, sum_by}
 use Rattle.std.specs.List.{AllByRecursion, list_any, count_by}
 use Rattle.std.specs.List.Sorted.{IsStrictlyIncreasing}
 use Rattle.fixed_point.specs.declared.V3.{V3}
-use Rattle.fixed_point.specs.Vectors.{origin, sum_of}
+use Rattle.fixed_point.specs.Vectors.{origin, sum_of, IsAtMost}
 use Rattle.cell_space.specs.Cells.{Position, CellData, InBox, AreDisjoint, contains, child, below, same_cell, same_place, before}
 use Rattle.nbody_model.specs.Bodies.{BodyData, IsValid, has, only, total}
 use Rattle.nbody_model.specs.Setups.{SetupData}
@@ -13,7 +13,7 @@ use Rattle.nbody_model.specs.Moments.{mass_of}
 use Rattle.nbody_model.specs.Covers.{Opening, opening_of, orient, same_pair, chain, cover, interactions, visited}
 use Rattle.nbody_model.specs.Walks.{found, visits, reached}
 use Rattle.nbody_model.specs.InOrder.{IsOrderOfChildren, found_in, visits_in, is_visit}
-use Rattle.nbody_model.specs.Force.{share_of, forces}
+use Rattle.nbody_model.specs.Force.{share_of, pair_force, node_total, force_at, forces}
 use Rattle.nbody_model.specs.Factors.{factor, kick_factor, drift_factor}
 use Rattle.nbody_model.specs.Steps.{change, kicked_bodies, drift}
 
@@ -69,6 +69,11 @@ pub record ArePairsOfNodes (o : Opening) : Type 0 where
 
 abbrev pub PairsOfNodes : Type 0
 PairsOfNodes = (o : Opening) → IsSound o → ArePairsOfNodes o
+
+-- a body has a mass of at least 1 and lies in the box
+pub record KeepsLimits (b : BodyData) : Type 0 where
+  pub heavy : 1 ≤ b.mass
+  pub in_box : InBox b.motion.pos
 
 -- bodies in an order and with numbers that the program's bodies have: ids that ascend, masses of at least 1, and
 -- positions in the box
@@ -165,3 +170,18 @@ PartnersAreDisjoint = (o : Opening) → IsSound o → (c : CellData) (x y : Cell
 -- a cell has at most as many interactions as there are bodies
 abbrev pub PartnersAreFew : Type 0
 PartnersAreFew = (o : Opening) → IsSound o → (c : CellData) → count_by (has_cell c) (interactions o) ≤ length o.positions
+
+-- ---- bounds, from one on the forces of pairs
+
+-- each interaction's force is at most that much on each axis
+abbrev pub PairsAreAtMost : Gravity → List BodyData → ℕ → Type 0
+PairsAreAtMost g B most = AllByRecursion (λ x. IsAtMost most (pair_force g B x)) (interactions (opening_of g.setup B))
+
+-- a node's total is at most as much for each body
+abbrev pub NodeTotalsAreBounded : Type 0
+NodeTotalsAreBounded = (g : Gravity) (B : List BodyData) → AreBodies B → (most : ℕ) → PairsAreAtMost g B most → (c : CellData) → IsAtMost (length B * most) (node_total g B c)
+
+-- the force on a body is at most that much, and the mass of all bodies, for each of the 33 cells around it
+abbrev pub ForcesAreBounded : Type 0
+ForcesAreBounded = (g : Gravity) (B : List BodyData) → AreBodies B → (most : ℕ) → PairsAreAtMost g B most →
+    AllByRecursion (λ b. IsAtMost (33 * (length B * most + mass_of B)) (force_at g B b)) B

@@ -1,4 +1,5 @@
 // The laws of the definitions, as contracts.
+pub mod bodies;
 pub mod cells;
 pub mod forces;
 pub mod places;

@@ -1,5 +1,5 @@
 // What holds of forces.
-ghost use Rattle.nbody_model.specs.Laws.{ForcesCancel, OpeningIsSound, SharesAddUp};
+ghost use Rattle.nbody_model.specs.Laws.{ForcesAreBounded, ForcesCancel, NodeTotalsAreBounded, OpeningIsSound, SharesAddUp};
 
 /// The shares that the members of a node get of a total add up to it.
 pub fn shares_add_up()
@@ -14,4 +14,14 @@ pub fn forces_cancel()
 /// Over bodies in the box the opening rule is fair, so the laws of walks hold of it.
 pub fn opening_is_sound()
     ensures { OpeningIsSound }
+{}
+
+/// A node's total is at most the greatest force of a pair for each body.
+pub fn node_totals_are_bounded()
+    ensures { NodeTotalsAreBounded }
+{}
+
+/// Forces are at most what the greatest force of a pair and the mass of all bodies allow.
+pub fn forces_are_bounded()
+    ensures { ForcesAreBounded }
 {}
