@@ -1,2 +1,4 @@
 pub mod Asks
 pub mod Commands
+pub mod Inputs
+pub mod Texts

@@ -1,11 +1,18 @@
 // What is read before anything is written.
+ghost use Rattle.std.specs.Prelude.{◌≡◌, ◌⊎◌, false, IsTrue, IfOk, IfErr, OnOk};
+ghost use Rattle.text_words.specs.Comments.{lines_in};
+ghost use Rattle.param_file.specs.Reading.{Spell as SpellParams};
+ghost use Rattle.output_schedule.specs.Times.{Spell as SpellTimes};
+ghost use Rattle.snap_file.specs.Snapshots.{SpellsHead, SpellsSnapshot, IsHeadFault};
+ghost use Rattle.store_io.specs.Causes.{HasCause, read_failed};
+ghost use Rattle.gadget.specs.Inputs.{Seen, WasRead, NotRead, NamesParams, ParamRefusal, ParamAnswer, GivesTimes, NamesTimes, ListRefusal, NamedListRefusal, ListAnswer, NamesBodies, BodiesRefusal, NamesSnapshot, ShowRefusal, SnapshotAnswer, asks_unbuilt, status_of};
+
 use crate::status::Status;
 use crate::unbuilt::{asks_unbuilt, two_at_one_position};
 use output_schedule::{OutputErr, read_outputs};
 use param_file::{ParamErr, ParamKind, Params, read_params};
-use particle_set::{BodySet, SetErr};
+use particle_set::BodySet;
 use snap_file::{Head, SnapErr, read_head, read_snapshot};
-use snapshot_blocks::BlockKind;
 use std::alloc::Global;
 use store_io::{ReadErr, Store, Text, read_whole};
 
@@ -19,7 +26,9 @@ const LONGEST_LIST: u64 = 1_048_576;
 const LONGEST_SNAPSHOT: u64 = 268_435_456;
 
 // The answer for a file that wasn't read.
-fn unread(alloc: Global, name: &Text, err: ReadErr) -> Status {
+fn unread(alloc: Global, name: &Text, err: ReadErr) -> Status
+    ensures { (result ≡ Status.Memory) ⊎ (result ≡ status_of err name.now) }
+{
     let Ok(name) = Text::from_bytes(alloc, name.bytes()) else {
         return Status::Memory;
     };
@@ -31,39 +40,67 @@ fn unread(alloc: Global, name: &Text, err: ReadErr) -> Status {
     }
 }
 
-fn refused_parameters(err: ParamErr) -> Status {
-    match err.kind {
-        ParamKind::Memory => Status::Memory,
-        _ => Status::Param(err),
-    }
-}
-
-fn refused_snapshot(err: SnapErr) -> Status {
-    match err {
-        SnapErr::Memory | SnapErr::Bodies(SetErr::Memory) => Status::Memory,
-        SnapErr::Block(block) if block.kind == BlockKind::Memory => Status::Memory,
-        other => Status::Snapshot(other),
-    }
-}
-
+// The bytes of a file, or the answer for it.
 fn read_file<S: Store>(
     alloc: Global,
     store: &mut S,
     name: &Text,
     limit: u64,
-) -> Result<Vec<u8>, Status> {
+) -> Result<Vec<u8>, Status>
+    ensures tells { S.tells store.new ≡ S.tells store.old }
+    ensures files { S.file store.new ≡ S.file store.old }
+    ensures ok { IfOk result (λ v. IsTrue (S.tells store.old) → WasRead (S.file store.old) name.now limit v.items) }
+    ensures quiet { OnOk result ((S.faults store.new ≡ S.faults store.old) × (S.last store.new ≡ S.last store.old)) }
+    ensures err { IfErr result (NotRead (record {
+      tells = S.tells store.old;
+      files = S.file store.old;
+      faults = S.faults store.old;
+      faults_new = S.faults store.new;
+      last = S.last store.new;
+    }) name.now limit) }
+{
     match read_whole(alloc, store, name, limit) {
         Ok(bytes) => Ok(bytes),
         Err(err) => Err(unread(alloc, name, err)),
     }
 }
 
+// The settings that bytes spell.
+fn params_of(alloc: Global, bytes: &[u8]) -> Result<Params, Status>
+    ensures ok { IfOk result (SpellParams (lines_in bytes.now)) }
+    ensures err { IfErr result (ParamAnswer bytes.now) }
+{
+    match read_params(alloc, bytes) {
+        Ok(params) => Ok(params),
+        Err(err) => match err.kind {
+            ParamKind::Memory => Err(Status::Memory),
+            _ => Err(Status::Param(err)),
+        },
+    }
+}
+
 /// Reads a parameter file that asks for nothing but what is built.
-pub fn load_params<S: Store>(alloc: Global, store: &mut S, name: &Text) -> Result<Params, Status> {
-    let bytes = read_file(alloc, store, name, LONGEST_PARAMETERS)?;
-    let params = match read_params(alloc, &bytes) {
+pub fn load_params<S: Store>(alloc: Global, store: &mut S, name: &Text) -> Result<Params, Status>
+    ensures tells { S.tells store.new ≡ S.tells store.old }
+    ensures files { S.file store.new ≡ S.file store.old }
+    ensures ok { IfOk result (λ p. IsTrue (S.tells store.old) → NamesParams (S.file store.old) name.now p) }
+    ensures built { IfOk result (λ p. asks_unbuilt p ≡ false) }
+    ensures quiet { OnOk result ((S.faults store.new ≡ S.faults store.old) × (S.last store.new ≡ S.last store.old)) }
+    ensures err { IfErr result (ParamRefusal (record {
+      tells = S.tells store.old;
+      files = S.file store.old;
+      faults = S.faults store.old;
+      faults_new = S.faults store.new;
+      last = S.last store.new;
+    }) name.now) }
+{
+    let bytes = match read_file(alloc, store, name, LONGEST_PARAMETERS) {
+        Ok(bytes) => bytes,
+        Err(status) => return Err(status),
+    };
+    let params = match params_of(alloc, &bytes) {
         Ok(params) => params,
-        Err(err) => return Err(refused_parameters(err)),
+        Err(status) => return Err(status),
     };
     if asks_unbuilt(&params) {
         return Err(Status::NotBuilt);
@@ -71,19 +108,37 @@ pub fn load_params<S: Store>(alloc: Global, store: &mut S, name: &Text) -> Resul
     Ok(params)
 }
 
-fn refused_outputs(err: OutputErr) -> Status {
-    match err {
-        OutputErr::Memory => Status::Memory,
-        other => Status::Outputs(other),
+// The times that bytes spell.
+fn times_of(alloc: Global, bytes: &[u8]) -> Result<Vec<u64>, Status>
+    ensures ok { IfOk result (λ v. SpellTimes (lines_in bytes.now) v.items) }
+    ensures err { IfErr result (ListAnswer bytes.now) }
+{
+    match read_outputs(alloc, bytes) {
+        Ok(times) => Ok(times),
+        Err(OutputErr::Memory) => Err(Status::Memory),
+        Err(err) => Err(Status::Outputs(err)),
     }
 }
 
-fn read_list<S: Store>(alloc: Global, store: &mut S, name: &Text) -> Result<Vec<u64>, Status> {
-    let bytes = read_file(alloc, store, name, LONGEST_LIST)?;
-    match read_outputs(alloc, &bytes) {
-        Ok(outputs) => Ok(outputs),
-        Err(err) => Err(refused_outputs(err)),
-    }
+// Reads an output list.
+fn load_list<S: Store>(alloc: Global, store: &mut S, name: &Text) -> Result<Vec<u64>, Status>
+    ensures tells { S.tells store.new ≡ S.tells store.old }
+    ensures files { S.file store.new ≡ S.file store.old }
+    ensures ok { IfOk result (λ v. IsTrue (S.tells store.old) → NamesTimes (S.file store.old) name.now v.items) }
+    ensures quiet { OnOk result ((S.faults store.new ≡ S.faults store.old) × (S.last store.new ≡ S.last store.old)) }
+    ensures err { IfErr result (NamedListRefusal (record {
+      tells = S.tells store.old;
+      files = S.file store.old;
+      faults = S.faults store.old;
+      faults_new = S.faults store.new;
+      last = S.last store.new;
+    }) name.now) }
+{
+    let bytes = match read_file(alloc, store, name, LONGEST_LIST) {
+        Ok(bytes) => bytes,
+        Err(status) => return Err(status),
+    };
+    times_of(alloc, &bytes)
 }
 
 /// Reads the listed times, none where no list is named.
@@ -91,10 +146,48 @@ pub fn load_outputs<S: Store>(
     alloc: Global,
     store: &mut S,
     params: &Params,
-) -> Result<Vec<u64>, Status> {
+) -> Result<Vec<u64>, Status>
+    ensures tells { S.tells store.new ≡ S.tells store.old }
+    ensures files { S.file store.new ≡ S.file store.old }
+    ensures ok { IfOk result (λ v. IsTrue (S.tells store.old)
+        → GivesTimes (S.file store.old) params.now.output_list_filename v.items) }
+    ensures quiet { OnOk result ((S.faults store.new ≡ S.faults store.old) × (S.last store.new ≡ S.last store.old)) }
+    ensures err { IfErr result (ListRefusal (record {
+      tells = S.tells store.old;
+      files = S.file store.old;
+      faults = S.faults store.old;
+      faults_new = S.faults store.new;
+      last = S.last store.new;
+    }) params.now.output_list_filename) }
+{
     match &params.output_list_filename {
-        Some(name) => read_list(alloc, store, name),
+        Some(name) => load_list(alloc, store, name),
         None => Ok(Vec::new(alloc)),
+    }
+}
+
+// The bodies that bytes spell.
+fn bodies_of(alloc: Global, bytes: &[u8]) -> Result<BodySet, Status>
+    ensures ok { IfOk result (SpellsSnapshot bytes.now) }
+    ensures err { IfErr result (SnapshotAnswer bytes.now) }
+{
+    match read_snapshot(alloc, bytes) {
+        Ok(set) => Ok(set),
+        Err(SnapErr::Memory) => Err(Status::Memory),
+        Err(err) => Err(Status::Snapshot(err)),
+    }
+}
+
+// The head that bytes spell.
+#[tactic(auto, using(crate::proofs::Heads::head_fault_is))]
+fn head_of(alloc: Global, bytes: &[u8]) -> Result<Head, Status>
+    ensures ok { IfOk result (SpellsHead bytes.now) }
+    ensures err { IfErr result (SnapshotAnswer bytes.now) }
+{
+    match read_head(alloc, bytes) {
+        Ok(head) => Ok(head),
+        Err(SnapErr::Memory) => Err(Status::Memory),
+        Err(err) => Err(Status::Snapshot(err)),
     }
 }
 
@@ -103,24 +196,54 @@ pub fn load_snapshot<S: Store>(
     alloc: Global,
     store: &mut S,
     name: &Text,
-) -> Result<(Head, BodySet), Status> {
-    let bytes = read_file(alloc, store, name, LONGEST_SNAPSHOT)?;
-    let head = match read_head(alloc, &bytes) {
-        Ok(head) => head,
-        Err(err) => return Err(refused_snapshot(err)),
+) -> Result<(Head, BodySet), Status>
+    ensures tells { S.tells store.new ≡ S.tells store.old }
+    ensures files { S.file store.new ≡ S.file store.old }
+    ensures ok { IfOk result (λ r. IsTrue (S.tells store.old) → NamesSnapshot (S.file store.old) name.now r.0 r.1) }
+    ensures quiet { OnOk result ((S.faults store.new ≡ S.faults store.old) × (S.last store.new ≡ S.last store.old)) }
+    ensures err { IfErr result (ShowRefusal (record {
+      tells = S.tells store.old;
+      files = S.file store.old;
+      faults = S.faults store.old;
+      faults_new = S.faults store.new;
+      last = S.last store.new;
+    }) name.now) }
+{
+    let bytes = match read_file(alloc, store, name, LONGEST_SNAPSHOT) {
+        Ok(bytes) => bytes,
+        Err(status) => return Err(status),
     };
-    match read_snapshot(alloc, &bytes) {
+    let head = match head_of(alloc, &bytes) {
+        Ok(head) => head,
+        Err(status) => return Err(status),
+    };
+    match bodies_of(alloc, &bytes) {
         Ok(set) => Ok((head, set)),
-        Err(err) => Err(refused_snapshot(err)),
+        Err(status) => Err(status),
     }
 }
 
 /// Reads a snapshot whose bodies are at different positions.
-pub fn load_bodies<S: Store>(alloc: Global, store: &mut S, name: &Text) -> Result<BodySet, Status> {
-    let bytes = read_file(alloc, store, name, LONGEST_SNAPSHOT)?;
-    let set = match read_snapshot(alloc, &bytes) {
+pub fn load_bodies<S: Store>(alloc: Global, store: &mut S, name: &Text) -> Result<BodySet, Status>
+    ensures tells { S.tells store.new ≡ S.tells store.old }
+    ensures files { S.file store.new ≡ S.file store.old }
+    ensures ok { IfOk result (λ B. IsTrue (S.tells store.old) → NamesBodies (S.file store.old) name.now B) }
+    ensures quiet { OnOk result ((S.faults store.new ≡ S.faults store.old) × (S.last store.new ≡ S.last store.old)) }
+    ensures err { IfErr result (BodiesRefusal (record {
+      tells = S.tells store.old;
+      files = S.file store.old;
+      faults = S.faults store.old;
+      faults_new = S.faults store.new;
+      last = S.last store.new;
+    }) name.now) }
+{
+    let bytes = match read_file(alloc, store, name, LONGEST_SNAPSHOT) {
+        Ok(bytes) => bytes,
+        Err(status) => return Err(status),
+    };
+    let set = match bodies_of(alloc, &bytes) {
         Ok(set) => set,
-        Err(err) => return Err(refused_snapshot(err)),
+        Err(status) => return Err(status),
     };
     match two_at_one_position(alloc, set.bodies()) {
         Ok(false) => Ok(set),

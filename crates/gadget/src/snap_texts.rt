@@ -1,4 +1,7 @@
 // What is printed of a snapshot that was refused.
+ghost use Rattle.std.specs.Prelude.{◌≡◌, ◌++◌, OnOk, codes};
+ghost use Rattle.gadget.specs.Texts.{spaced, block_text, set_text, snapshot_fault_text};
+
 use fixed_point::Memory;
 use particle_set::SetErr;
 use snap_file::SnapErr;
@@ -6,26 +9,34 @@ use snapshot_blocks::{BlockErr, BlockKind};
 use text_words::push_unsigned;
 
 /// Puts a number behind a line, after a space.
-pub fn push_spaced(line: &mut Vec<u8>, n: u64) -> Result<(), Memory> {
+pub fn push_spaced(line: &mut Vec<u8>, n: u64) -> Result<(), Memory>
+    ensures { OnOk result (line.new.items ≡ line.old.items ++ spaced n) }
+{
     line.push(b' ')?;
     push_unsigned(line, u128::from(n))
 }
 
 // Some words, and a number.
-fn push_counted(line: &mut Vec<u8>, words: &[u8], n: u64) -> Result<(), Memory> {
+fn push_counted(line: &mut Vec<u8>, words: &[u8], n: u64) -> Result<(), Memory>
+    ensures { OnOk result (line.new.items ≡ line.old.items ++ (words.now ++ spaced n)) }
+{
     line.extend_from_slice(words)?;
     push_spaced(line, n)
 }
 
 // Some words, and a block's name of four bytes.
-fn push_named(line: &mut Vec<u8>, words: &[u8], name: &[u8; 4]) -> Result<(), Memory> {
+fn push_named(line: &mut Vec<u8>, words: &[u8], name: &[u8; 4]) -> Result<(), Memory>
+    ensures { OnOk result (line.new.items ≡ line.old.items ++ (words.now ++ codes " " ++ name.now)) }
+{
     line.extend_from_slice(words)?;
     line.push(b' ')?;
     line.extend_from_slice(name)?;
     Ok(())
 }
 
-fn push_block_err(line: &mut Vec<u8>, err: &BlockErr) -> Result<(), Memory> {
+fn push_block_err(line: &mut Vec<u8>, err: &BlockErr) -> Result<(), Memory>
+    ensures { OnOk result (line.new.items ≡ line.old.items ++ block_text err.now.at err.now.kind) }
+{
     match err.kind {
         BlockKind::Truncated => push_counted(line, b"truncated at", err.at),
         BlockKind::NameFrame => push_counted(line, b"name frame at", err.at),
@@ -39,8 +50,10 @@ fn push_block_err(line: &mut Vec<u8>, err: &BlockErr) -> Result<(), Memory> {
     }
 }
 
-/// Puts what is wrong with a set of bodies behind a line.
-pub fn push_set_err(line: &mut Vec<u8>, err: &SetErr) -> Result<(), Memory> {
+// Puts what is wrong with a set of bodies behind a line.
+fn push_set_err(line: &mut Vec<u8>, err: &SetErr) -> Result<(), Memory>
+    ensures { OnOk result (line.new.items ≡ line.old.items ++ set_text err.now) }
+{
     match err {
         SetErr::TooMany { n } => push_counted(line, b"too many", *n),
         SetErr::Repeated { id } => push_counted(line, b"repeated id", *id),
@@ -52,7 +65,9 @@ pub fn push_set_err(line: &mut Vec<u8>, err: &SetErr) -> Result<(), Memory> {
 }
 
 /// Puts what is wrong with a snapshot behind a line.
-pub fn push_snap_err(line: &mut Vec<u8>, err: &SnapErr) -> Result<(), Memory> {
+pub fn push_snap_err(line: &mut Vec<u8>, err: &SnapErr) -> Result<(), Memory>
+    ensures { OnOk result (line.new.items ≡ line.old.items ++ snapshot_fault_text err.now) }
+{
     match err {
         SnapErr::Block(block) => push_block_err(line, block),
         SnapErr::RepeatedBlock(name) => push_named(line, b"repeated block", name),

@@ -1,4 +1,9 @@
 // What is printed at the end.
+ghost use Rattle.std.specs.Prelude.{◌≡◌, ◌++◌, IfOk, OnOk, codes};
+ghost use Rattle.std.specs.Fmt.{signed_decimal};
+ghost use Rattle.nbody_model.specs.Bodies.{vector};
+ghost use Rattle.gadget.specs.Texts.{spaced, vector_text, kind_text, param_text, list_text, status_words, status_text, done_text, IsNotMissing};
+
 use crate::snap_texts::{push_snap_err, push_spaced};
 use crate::status::Status;
 use fixed_point::Memory;
@@ -6,29 +11,43 @@ use output_schedule::OutputErr;
 use param_file::{ParamErr, ParamKind};
 use run_session::Ended;
 use std::alloc::Global;
+use snap_file::SnapErr;
+use store_io::Text;
 use text_words::{push_number, push_unsigned};
 
 const USAGE: &[u8] =
     b"usage: gadget run PARAM RANKS | resume PARAM RESTART RANKS | check PARAM | show SNAP | make COUNT SEED NAME";
 
 /// Puts some words and a number behind a line.
-pub fn push_counted(line: &mut Vec<u8>, words: &[u8], n: u128) -> Result<(), Memory> {
+pub fn push_counted(line: &mut Vec<u8>, words: &[u8], n: u128) -> Result<(), Memory>
+    ensures { OnOk result (line.new.items ≡ line.old.items ++ (words.now ++ spaced n)) }
+{
     line.extend_from_slice(words)?;
     line.push(b' ')?;
     push_unsigned(line, n)
 }
 
+// Puts a number behind a line, after a space.
+fn push_signed(line: &mut Vec<u8>, n: i128) -> Result<(), Memory>
+    ensures { OnOk result (line.new.items ≡ line.old.items ++ (codes " " ++ signed_decimal n)) }
+{
+    line.push(b' ')?;
+    push_number(line, n)
+}
+
 /// Puts three numbers behind a line, each after a space.
-pub fn push_vector(line: &mut Vec<u8>, v: &[i128; 3]) -> Result<(), Memory> {
-    for number in v {
-        line.push(b' ')?;
-        push_number(line, *number)?;
-    }
-    Ok(())
+pub fn push_vector(line: &mut Vec<u8>, v: &[i128; 3]) -> Result<(), Memory>
+    ensures { OnOk result (line.new.items ≡ line.old.items ++ vector_text (vector v.now)) }
+{
+    push_signed(line, v[0])?;
+    push_signed(line, v[1])?;
+    push_signed(line, v[2])
 }
 
 /// The line of a run that is done.
-pub fn done_line(alloc: Global, run: &Ended) -> Result<Vec<u8>, Memory> {
+pub fn done_line(alloc: Global, run: &Ended) -> Result<Vec<u8>, Memory>
+    ensures { IfOk result (λ line. line.items ≡ done_text run.now) }
+{
     let mut line = Vec::new(alloc);
     push_counted(&mut line, b"done tick", u128::from(run.tick))?;
     push_counted(&mut line, b" steps", u128::from(run.steps))?;
@@ -41,27 +60,43 @@ pub fn done_line(alloc: Global, run: &Ended) -> Result<Vec<u8>, Memory> {
     Ok(line)
 }
 
-fn push_param_err(line: &mut Vec<u8>, err: &ParamErr) -> Result<(), Memory> {
-    push_counted(line, b"parameter line", u128::from(err.line))?;
-    line.push(b' ')?;
-    let words: &[u8] = match err.kind {
+// The words for what is wrong with a parameter file.
+fn kind_words(kind: ParamKind) -> &'static [u8]
+    requires { IsNotMissing kind }
+    ensures { result.now ≡ kind_text kind }
+{
+    match kind {
         ParamKind::Unknown => b"unknown",
         ParamKind::NoValue => b"no value",
         ParamKind::Repeated => b"repeated",
         ParamKind::NotNumber => b"not a number",
         ParamKind::OutOfRange => b"out of range",
         ParamKind::Clash => b"clash",
-        ParamKind::Missing(name) => {
-            line.extend_from_slice(b"missing ")?;
-            name.as_bytes()
-        }
+        ParamKind::Missing(_) => unreachable!(),
         ParamKind::Memory => b"",
-    };
-    line.extend_from_slice(words)?;
-    Ok(())
+    }
 }
 
-fn push_output_err(line: &mut Vec<u8>, err: &OutputErr) -> Result<(), Memory> {
+fn push_kind(line: &mut Vec<u8>, kind: ParamKind) -> Result<(), Memory>
+    ensures { OnOk result (line.new.items ≡ line.old.items ++ kind_text kind) }
+{
+    match kind {
+        ParamKind::Missing(row) => push_name(line, b"missing ", row.as_bytes()),
+        other => Ok(line.extend_from_slice(kind_words(other))?),
+    }
+}
+
+fn push_param_err(line: &mut Vec<u8>, err: &ParamErr) -> Result<(), Memory>
+    ensures { OnOk result (line.new.items ≡ line.old.items ++ param_text err.now) }
+{
+    push_counted(line, b"parameter line", u128::from(err.line))?;
+    line.push(b' ')?;
+    push_kind(line, err.kind)
+}
+
+fn push_output_err(line: &mut Vec<u8>, err: &OutputErr) -> Result<(), Memory>
+    ensures { OnOk result (line.new.items ≡ line.old.items ++ list_text err.now) }
+{
     match err {
         OutputErr::NotNumber { line: number } => {
             push_counted(line, b"outputs line", u128::from(*number))?;
@@ -75,35 +110,48 @@ fn push_output_err(line: &mut Vec<u8>, err: &OutputErr) -> Result<(), Memory> {
 }
 
 // Some words, and a name.
-fn push_name(line: &mut Vec<u8>, words: &[u8], name: &[u8]) -> Result<(), Memory> {
+fn push_name(line: &mut Vec<u8>, words: &[u8], name: &[u8]) -> Result<(), Memory>
+    ensures { OnOk result (line.new.items ≡ line.old.items ++ (words.now ++ name.now)) }
+{
     line.extend_from_slice(words)?;
     line.extend_from_slice(name)?;
     Ok(())
 }
 
-fn push_range(line: &mut Vec<u8>, status: &Status) -> Result<(), Memory> {
-    match status {
-        Status::MomRange {
-            tick,
-            bin,
-            id,
-            axis,
-        } => {
-            push_counted(line, b"momentum range tick", u128::from(*tick))?;
-            push_counted(line, b" bin", u128::from(*bin))?;
-            push_counted(line, b" id", u128::from(*id))?;
-            push_counted(line, b" axis", u128::from(*axis))
-        }
-        Status::StepRange { tick, id } => {
-            push_counted(line, b"step range tick", u128::from(*tick))?;
-            push_counted(line, b" id", u128::from(*id))
-        }
-        _ => Ok(()),
-    }
+fn push_mom_range(line: &mut Vec<u8>, tick: u64, bin: u8, id: u64, axis: u8) -> Result<(), Memory>
+    ensures { OnOk result (line.new.items ≡ line.old.items ++ status_words (Status.MomRange tick bin id axis)) }
+{
+    push_counted(line, b"momentum range tick", u128::from(tick))?;
+    push_counted(line, b" bin", u128::from(bin))?;
+    push_counted(line, b" id", u128::from(id))?;
+    push_counted(line, b" axis", u128::from(axis))
+}
+
+fn push_step_range(line: &mut Vec<u8>, tick: u64, id: u64) -> Result<(), Memory>
+    ensures { OnOk result (line.new.items ≡ line.old.items ++ status_words (Status.StepRange tick id)) }
+{
+    push_counted(line, b"step range tick", u128::from(tick))?;
+    push_counted(line, b" id", u128::from(id))
+}
+
+fn push_too_long(line: &mut Vec<u8>, name: &Text, len: u64) -> Result<(), Memory>
+    ensures { OnOk result (line.new.items ≡ line.old.items ++ status_words (Status.TooLong name.now len)) }
+{
+    push_name(line, b"too long ", name.bytes())?;
+    push_spaced(line, len)
+}
+
+fn push_snapshot_fault(line: &mut Vec<u8>, err: &SnapErr) -> Result<(), Memory>
+    ensures { OnOk result (line.new.items ≡ line.old.items ++ status_words (Status.Snapshot err.now)) }
+{
+    line.extend_from_slice(b"snapshot ")?;
+    push_snap_err(line, err)
 }
 
 // The words of a status, with no end of line.
-fn push_status(line: &mut Vec<u8>, status: &Status) -> Result<(), Memory> {
+fn push_status(line: &mut Vec<u8>, status: &Status) -> Result<(), Memory>
+    ensures { OnOk result (line.new.items ≡ line.old.items ++ status_words status.now) }
+{
     match status {
         Status::Done | Status::ConsoleFault => Ok(()),
         Status::Usage => Ok(line.extend_from_slice(USAGE)?),
@@ -112,22 +160,24 @@ fn push_status(line: &mut Vec<u8>, status: &Status) -> Result<(), Memory> {
         Status::ReadFault { name } => push_name(line, b"read fault ", name.bytes()),
         Status::WriteFault { name } => push_name(line, b"write fault ", name.bytes()),
         Status::Absent { name } => push_name(line, b"absent ", name.bytes()),
-        Status::TooLong { name, len } => {
-            push_name(line, b"too long ", name.bytes())?;
-            push_spaced(line, *len)
-        }
+        Status::TooLong { name, len } => push_too_long(line, name, *len),
         Status::Param(err) => push_param_err(line, err),
         Status::Outputs(err) => push_output_err(line, err),
-        Status::Snapshot(err) => {
-            line.extend_from_slice(b"snapshot ")?;
-            push_snap_err(line, err)
-        }
-        Status::MomRange { .. } | Status::StepRange { .. } => push_range(line, status),
+        Status::Snapshot(err) => push_snapshot_fault(line, err),
+        Status::MomRange {
+            tick,
+            bin,
+            id,
+            axis,
+        } => push_mom_range(line, *tick, *bin, *id, *axis),
+        Status::StepRange { tick, id } => push_step_range(line, *tick, *id),
     }
 }
 
 /// The line of a command that wasn't done.
-pub fn status_line(alloc: Global, status: &Status) -> Result<Vec<u8>, Memory> {
+pub fn status_line(alloc: Global, status: &Status) -> Result<Vec<u8>, Memory>
+    ensures { IfOk result (λ line. line.items ≡ status_text status.now) }
+{
     let mut line = Vec::new(alloc);
     push_status(&mut line, status)?;
     line.push(b'\n')?;

@@ -1,11 +1,16 @@
 // The settings that aren't built yet.
+ghost use Rattle.std.specs.Prelude.{◌≡◌};
+ghost use Rattle.gadget.specs.Inputs.{asks_unbuilt};
+
 use fixed_point::Memory;
 use nbody_model::Body;
 use param_file::Params;
 use std::alloc::Global;
 
 /// Whether a parameter file asks for what isn't built.
-pub fn asks_unbuilt(params: &Params) -> bool {
+pub fn asks_unbuilt(params: &Params) -> bool
+    ensures { result ≡ asks_unbuilt params.now }
+{
     params.restart_every != 0
         || params.err_tol_theta != 0
         || params.low_bin != params.top_bin

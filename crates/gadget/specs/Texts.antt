@@ -1,0 +1,127 @@
+-- What is printed: one line or a few, numbers in decimal, each line ended by LF.
+use Rattle.std.specs.Prelude.{ℕ, List, ◌++◌, ◌+◌, length, sum_by, slice_index, codes, decimal}
+use Rattle.std.specs.Fmt.{signed_decimal}
+use Rattle.fixed_point.specs.declared.V3.{V3}
+use Rattle.nbody_model.specs.Bodies.{BodyData, total, vector}
+use Rattle.param_file.specs.Rows.{name_of}
+use Rattle.param_file.specs.declared.errors.ParamErr.{ParamErr}
+use Rattle.param_file.specs.declared.errors.ParamKind.{ParamKind}
+use Rattle.param_file.specs.declared.errors.ParamKind.TheVariants.{Unknown, NoValue, Repeated, NotNumber, OutOfRange, Missing, Clash, Memory as ParamMemory}
+use Rattle.output_schedule.specs.declared.errors.OutputErr.{OutputErr}
+use Rattle.output_schedule.specs.declared.errors.OutputErr.TheVariants.{NotNumber as NoNumber, TooMany as TooManyTimes, Memory as ListMemory}
+use Rattle.snapshot_blocks.specs.declared.block.BlockErr.{BlockErr}
+use Rattle.snapshot_blocks.specs.declared.block.BlockKind.{BlockKind}
+use Rattle.snapshot_blocks.specs.declared.block.BlockKind.TheVariants.{Truncated, NameFrame, FrameDiffers, SkipDiffers, Memory as BlockMemory}
+use Rattle.particle_set.specs.declared.row.SetErr.{SetErr}
+use Rattle.particle_set.specs.declared.row.SetErr.TheVariants.{TooMany, Repeated as RepeatedId, ZeroMass, MassTotal, MomRange as MomentumOut, Memory as SetMemory}
+use Rattle.snap_file.specs.declared.head.Head.{Head}
+use Rattle.snap_file.specs.declared.errors.SnapErr.{SnapErr}
+use Rattle.snap_file.specs.declared.errors.SnapErr.TheVariants.{Block, RepeatedBlock, MissingBlock, HeadLength, HeadTag, Gas, BlockLength, Bodies, Memory as SnapMemory}
+use Rattle.run_session.specs.declared.session.Ended.{Ended}
+use Rattle.gadget.specs.declared.status.Status.{Status}
+use Rattle.gadget.specs.declared.status.Status.TheVariants.{Done, Usage, Memory, ReadFault, WriteFault, ConsoleFault, Absent, TooLong, NotBuilt, Param, Outputs, Snapshot, MomRange, StepRange}
+
+-- a number after a space
+abbrev pub spaced : ℕ → List ℕ
+spaced n = codes " " ++ decimal n
+
+-- three numbers, each after a space
+abbrev pub vector_text : V3 → List ℕ
+vector_text v = codes " " ++ signed_decimal v.x ++ codes " " ++ signed_decimal v.y ++ codes " " ++ signed_decimal v.z
+
+-- ---- what is wrong
+
+abbrev pub kind_text : ParamKind → List ℕ
+kind_text Unknown = codes "unknown"
+kind_text NoValue = codes "no value"
+kind_text Repeated = codes "repeated"
+kind_text NotNumber = codes "not a number"
+kind_text OutOfRange = codes "out of range"
+kind_text (Missing row) = codes "missing " ++ name_of row
+kind_text Clash = codes "clash"
+kind_text ParamMemory = codes ""
+
+abbrev pub IsNotMissing : ParamKind → Type 0
+IsNotMissing (Missing row) = ⊥
+IsNotMissing kind = Unit {0}
+
+abbrev pub param_text : ParamErr → List ℕ
+param_text e = codes "parameter line" ++ spaced e.line ++ codes " " ++ kind_text e.kind
+
+abbrev pub list_text : OutputErr → List ℕ
+list_text (NoNumber line) = codes "outputs line" ++ spaced line ++ codes " not a number"
+list_text (TooManyTimes count) = codes "outputs too many" ++ spaced count
+list_text ListMemory = codes ""
+
+abbrev pub block_text : ℕ → BlockKind → List ℕ
+block_text at Truncated = codes "truncated at" ++ spaced at
+block_text at NameFrame = codes "name frame at" ++ spaced at
+block_text at (FrameDiffers first last) = codes "frames differ at" ++ spaced at ++ spaced first ++ spaced last
+block_text at SkipDiffers = codes "skip differs at" ++ spaced at
+block_text at BlockMemory = codes ""
+
+abbrev pub set_text : SetErr → List ℕ
+set_text (TooMany n) = codes "too many" ++ spaced n
+set_text (RepeatedId id) = codes "repeated id" ++ spaced id
+set_text (ZeroMass id) = codes "zero mass id" ++ spaced id
+set_text (MassTotal sum) = codes "mass total" ++ spaced sum
+set_text (MomentumOut id) = codes "momentum range id" ++ spaced id
+set_text SetMemory = codes ""
+
+abbrev pub snapshot_fault_text : SnapErr → List ℕ
+snapshot_fault_text (Block e) = block_text e.at e.kind
+snapshot_fault_text (RepeatedBlock name) = codes "repeated block" ++ codes " " ++ name
+snapshot_fault_text (MissingBlock name) = codes "missing block" ++ codes " " ++ name
+snapshot_fault_text (HeadLength got) = codes "head length" ++ spaced got
+snapshot_fault_text HeadTag = codes "head tag"
+snapshot_fault_text (Gas count) = codes "gas" ++ spaced count
+snapshot_fault_text (BlockLength name want got) = codes "block length" ++ codes " " ++ name ++ spaced want ++ spaced got
+snapshot_fault_text (Bodies e) = set_text e
+snapshot_fault_text SnapMemory = codes ""
+
+-- ---- the line of a status
+
+abbrev pub usage_text : List ℕ
+usage_text = codes "usage: gadget run PARAM RANKS | resume PARAM RESTART RANKS | check PARAM | show SNAP | make COUNT SEED NAME"
+
+abbrev pub status_words : Status → List ℕ
+status_words Done = codes ""
+status_words Usage = usage_text
+status_words Memory = codes "no memory"
+status_words (ReadFault name) = codes "read fault " ++ name
+status_words (WriteFault name) = codes "write fault " ++ name
+status_words ConsoleFault = codes ""
+status_words (Absent name) = codes "absent " ++ name
+status_words (TooLong name len) = codes "too long " ++ name ++ spaced len
+status_words NotBuilt = codes "not built"
+status_words (Param e) = param_text e
+status_words (Outputs e) = list_text e
+status_words (Snapshot e) = codes "snapshot " ++ snapshot_fault_text e
+status_words (MomRange tick bin id axis) = codes "momentum range tick" ++ spaced tick ++ codes " bin" ++ spaced bin ++ codes " id" ++ spaced id ++ codes " axis" ++ spaced axis
+status_words (StepRange tick id) = codes "step range tick" ++ spaced tick ++ codes " id" ++ spaced id
+
+abbrev pub status_text : Status → List ℕ
+status_text status = status_words status ++ codes "\n"
+
+-- ---- the lines of commands that did their work
+
+-- how many bodies there are, their mass and their momentum
+abbrev pub totals_text : List BodyData → List ℕ
+totals_text B = codes "bodies" ++ spaced (length B) ++ codes " mass" ++ spaced (sum_by (λ b. b.mass) B) ++ codes " momentum" ++ vector_text (total B) ++ codes "\n"
+
+abbrev pub check_text : List BodyData → List ℕ
+check_text B = codes "ok " ++ totals_text B
+
+-- how many bodies of a kind a head counts
+abbrev pub type_text : Head → ℕ → List ℕ
+type_text head kind = codes "type" ++ spaced kind ++ codes " bodies" ++ spaced (slice_index head.counts kind) ++ codes "\n"
+
+abbrev pub show_text : Head → List BodyData → List ℕ
+show_text head B =
+    codes "tick" ++ spaced head.tick ++ codes " number" ++ spaced head.number ++ codes " " ++ totals_text B ++
+    type_text head 1 ++ type_text head 2 ++ type_text head 3 ++ type_text head 4 ++ type_text head 5
+
+abbrev pub done_text : Ended → List ℕ
+done_text run =
+    codes "done tick" ++ spaced run.tick ++ codes " steps" ++ spaced run.steps ++ codes " snapshots" ++ spaced run.snapshots ++
+    codes " kicks" ++ spaced run.kicks ++ codes " interactions" ++ spaced run.interactions ++ codes " momentum" ++ vector_text (vector run.momentum) ++ codes "\n"
