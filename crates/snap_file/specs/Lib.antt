@@ -1,2 +1,4 @@
 pub mod Columns
 pub mod Kinds
+pub mod Snapshots
+pub mod Texts

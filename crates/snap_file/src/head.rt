@@ -1,9 +1,12 @@
 // The head of a snapshot.
-ghost use Rattle.std.specs.Prelude.{◌≡◌, ◌≤◌, ◌+◌, length};
+ghost use Rattle.std.specs.Prelude.{◌≡◌, ◌≤◌, ◌+◌, length, All, IfOk, IfErr, Some, None};
+ghost use Rattle.snapshot_blocks.specs.Blocks.{IsWithin};
+ghost use Rattle.snap_file.specs.Snapshots.{AreBlocks, HasHead, IsHeadFault, SpellsHead, head_fault, head_in};
 
 use crate::SnapErr;
-use crate::find::{blocks_of, head_contents};
+use crate::find::{blocks_of, contents};
 use fixed_point::{word32, word64};
+use snapshot_blocks::Block;
 use std::alloc::Global;
 
 const TAG: [u8; 8] = *b"I4SNAP01";
@@ -21,6 +24,7 @@ pub struct Head {
 // The head in these 256 bytes.
 fn head_at(bytes: &[u8]) -> Head
     requires { length bytes.now ≡ 256 }
+    ensures { result ≡ head_in bytes.now }
 {
     Head {
         counts: [
@@ -37,7 +41,10 @@ fn head_at(bytes: &[u8]) -> Head
 }
 
 // The head in the contents of its block.
-pub(crate) fn head_of(bytes: &[u8]) -> Result<Head, SnapErr> {
+fn head_of(bytes: &[u8]) -> Result<Head, SnapErr>
+    ensures ok { IfOk result (λ head. (head_fault bytes.now ≡ None) × (head ≡ head_in bytes.now)) }
+    ensures err { IfErr result (λ e. head_fault bytes.now ≡ Some e) }
+{
     if bytes.len() != HEAD_LENGTH {
         return Err(SnapErr::HeadLength {
             got: bytes.len() as u64,
@@ -49,9 +56,21 @@ pub(crate) fn head_of(bytes: &[u8]) -> Result<Head, SnapErr> {
     Ok(head_at(bytes))
 }
 
+// The head of a snapshot with these blocks.
+pub(crate) fn head_from(bytes: &[u8], blocks: &[Block]) -> Result<Head, SnapErr>
+    requires blocks_are { AreBlocks bytes.now blocks.now }
+    requires within { All (IsWithin bytes.now) blocks.now }
+    ensures ok { IfOk result (HasHead bytes.now blocks.now) }
+    ensures err { IfErr result (IsHeadFault bytes.now) }
+{
+    head_of(contents(bytes, blocks, *b"HEAD")?)
+}
+
 /// The head of a snapshot, by the frames of its blocks, their names and the head alone.
-pub fn read_head(alloc: Global, bytes: &[u8]) -> Result<Head, SnapErr> {
+pub fn read_head(alloc: Global, bytes: &[u8]) -> Result<Head, SnapErr>
+    ensures ok { IfOk result (SpellsHead bytes.now) }
+    ensures err { IfErr result (IsHeadFault bytes.now) }
+{
     let blocks = blocks_of(alloc, bytes)?;
-    let head = head_contents(bytes, &blocks)?;
-    head_of(head)
+    head_from(bytes, &blocks)
 }

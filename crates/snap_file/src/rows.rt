@@ -1,7 +1,9 @@
 // The rows of a snapshot's columns.
-ghost use Rattle.std.specs.Prelude.{◌≡◌, ◌≤◌, ◌<◌, ◌+◌, ◌*◌, length, All, IfOk};
+ghost use Rattle.std.specs.Prelude.{◌≡◌, ◌≤◌, ◌<◌, ◌+◌, ◌*◌, length, sum, All, IfOk};
 ghost use Rattle.particle_set.specs.Rows.{HasKind};
 ghost use Rattle.snap_file.specs.Kinds.{kind_at};
+ghost use Rattle.snap_file.specs.Snapshots.{HaveLengths, row_in, rows_in};
+ghost use Rattle.snap_file.specs.Texts.{texts_of};
 
 use fixed_point::{Memory, signed64, word32, word64};
 use particle_set::Row;
@@ -39,18 +41,20 @@ fn kind_of(counts: [u32; 6], place: u64) -> u8
     }
 }
 
-fn row_at(columns: Columns<'_>, place: usize, kind: u8) -> Row
-    requires kind_low { 1 ≤ kind }
-    requires kind_high { kind ≤ 5 }
-    requires positions { 12 * (place + 1) ≤ length columns.positions.now }
-    requires momenta { 24 * (place + 1) ≤ length columns.momenta.now }
-    requires ids { 8 * (place + 1) ≤ length columns.ids.now }
-    requires masses { 4 * (place + 1) ≤ length columns.masses.now }
-    ensures { HasKind result }
+// The row of the body at a place.
+#[tactic(auto, unfolding(crate::specs::Snapshots::row_in))]
+fn row_at(columns: &Columns<'_>, counts: [u32; 6], place: usize) -> Row
+    requires small { place < 1048576 }
+    requires positions { 12 * (place + 1) ≤ length columns.now.positions.now }
+    requires momenta { 24 * (place + 1) ≤ length columns.now.momenta.now }
+    requires ids { 8 * (place + 1) ≤ length columns.now.ids.now }
+    requires masses { 4 * (place + 1) ≤ length columns.now.masses.now }
+    ensures value { result ≡ row_in counts (texts_of columns.now) place }
+    ensures kind { HasKind result }
 {
     Row {
         id: word64(columns.ids, 8 * place),
-        kind,
+        kind: kind_of(counts, place as u64),
         mass: word32(columns.masses, 4 * place),
         pos: [
             word32(columns.positions, 12 * place),
@@ -68,21 +72,19 @@ fn row_at(columns: Columns<'_>, place: usize, kind: u8) -> Row
 /// The rows of all bodies, in the order of the snapshot.
 pub(crate) fn rows_of(
     alloc: Global,
-    columns: Columns<'_>,
+    columns: &Columns<'_>,
     counts: [u32; 6],
-    count: usize,
+    count: u32,
 ) -> Result<Vec<Row>, Memory>
-    requires all { count ≤ 1048576 }
-    requires positions { length columns.positions.now ≡ 12 * count }
-    requires momenta { length columns.momenta.now ≡ 24 * count }
-    requires ids { length columns.ids.now ≡ 8 * count }
-    requires masses { length columns.masses.now ≡ 4 * count }
-    ensures { IfOk result (λ rows. All HasKind rows.items) }
+    requires all { count ≡ sum counts }
+    requires few { count ≤ 1048576 }
+    requires lengths { HaveLengths count (texts_of columns.now) }
+    ensures kinds { IfOk result (λ rows. All HasKind rows.items) }
+    ensures value { IfOk result (λ rows. rows.items ≡ rows_in counts (texts_of columns.now)) }
 {
-    let mut rows = Vec::with_capacity(alloc, count)?;
-    for place in 0..count {
-        let kind = kind_of(counts, place as u64);
-        rows.push(row_at(columns, place, kind))?;
+    let mut rows = Vec::with_capacity(alloc, count as usize)?;
+    for place in 0..count as usize {
+        rows.push(row_at(columns, counts, place))?;
     }
     Ok(rows)
 }
