@@ -28,5 +28,6 @@ pub mod Preserved
 pub mod Conserved
 pub mod Rests
 pub mod Nests
+pub mod Resumed
 pub mod SessionFiles
 pub mod Worked
