@@ -134,15 +134,15 @@ unfolding node_total
 node_totals g B c = sum_of-totals (force_on (pair_force g B) c) (interactions (opening_of g.setup B))
 
 -- a node has mass
-heavy_filter : (t : BodyData → Bool) (ms : List BodyData) (m : BodyData) → AllByRecursion (λ b. 1 ≤ b.mass) ms → Among m ms → t m ≡ true → 0 < mass_of (filter t ms)
+pub heavy_filter : (t : BodyData → Bool) (ms : List BodyData) (m : BodyData) → AllByRecursion (λ b. 1 ≤ b.mass) ms → Among m ms → t m ≡ true → 0 < mass_of (filter t ms)
 heavy_filter t ms m a h e = omega (arith, each-among (λ b. 1 ≤ b.mass) m ms a h, among-le (λ b. b.mass) m (filter t ms) (among-filter t m ms h e))
 
-record BodyAt (p : Position) (B : List BodyData) : Type 0 where
-  it : BodyData
-  «in» : Among it B
-  at : it.motion.pos ≡ p
+pub record BodyAt (p : Position) (B : List BodyData) : Type 0 where
+  pub it : BodyData
+  pub «in» : Among it B
+  pub at : it.motion.pos ≡ p
 
-body_at : (p : Position) (B : List BodyData) → Among p (positions_of B) → BodyAt p B
+pub body_at : (p : Position) (B : List BodyData) → Among p (positions_of B) → BodyAt p B
 body_at p [] h = absurd h
 body_at p (b ∷ bs) (inl e) = record { it = b; «in» = inl refl; at = sym e }
 body_at p (b ∷ bs) (inr h) = let r : BodyAt p bs = body_at p bs h in record { it = r.it; «in» = inr r.«in»; at = r.at }

@@ -1,5 +1,5 @@
 -- The laws of the definitions.
-use Rattle.std.specs.Prelude.{◌≡◌, ◌≤◌, ◌<◌, ℕ, ◌+◌, ◌-◌, ◌*◌, Bool, false, ◌&&◌, ◌||◌, if◌then◌else◌, IsTrue, Option, Some, None, ⊤, List, length, map, filter, sum_by}
+use Rattle.std.specs.Prelude.{◌≡◌, ◌≤◌, ◌<◌, ℕ, ◌+◌, ◌-◌, ◌*◌, Bool, false, ◌&&◌, ◌||◌, if◌then◌else◌, IsTrue, pos, Option, Some, None, ⊤, List, length, map, filter, sum_by}
 use Rattle.std.specs.List.{AllByRecursion, list_any, count_by}
 use Rattle.std.specs.List.Sorted.{IsStrictlyIncreasing}
 use Rattle.fixed_point.specs.declared.V3.{V3}
@@ -8,8 +8,8 @@ use Rattle.cell_space.specs.Cells.{Position, CellData, InBox, AreDisjoint, conta
 use Rattle.nbody_model.specs.Bodies.{BodyData, IsValid, has, only, total}
 use Rattle.nbody_model.specs.Setups.{SetupData}
 use Rattle.nbody_model.specs.Tables.{Gravity, ExpansionData, IsExpansion, Reaches}
-use Rattle.nbody_model.specs.Nodes.{members, is_node}
-use Rattle.nbody_model.specs.Moments.{mass_of}
+use Rattle.nbody_model.specs.Nodes.{members, positions_of, is_node, is_leaf}
+use Rattle.nbody_model.specs.Moments.{MomentsData, mass_of, moments}
 use Rattle.nbody_model.specs.Covers.{Opening, opening_of, orient, same_pair, chain, cover, interactions, visited}
 use Rattle.nbody_model.specs.Walks.{found, visits, reached}
 use Rattle.nbody_model.specs.InOrder.{IsOrderOfChildren, found_in, visits_in, is_visit}
@@ -185,3 +185,18 @@ NodeTotalsAreBounded = (g : Gravity) (B : List BodyData) → AreBodies B → (mo
 abbrev pub ForcesAreBounded : Type 0
 ForcesAreBounded = (g : Gravity) (B : List BodyData) → AreBodies B → (most : ℕ) → PairsAreAtMost g B most →
     AllByRecursion (λ b. IsAtMost (33 * (length B * most + mass_of B)) (force_at g B b)) B
+
+-- ---- nodes
+
+-- the centre of a node lies in it
+abbrev pub CentresLieInside : Type 0
+CentresLieInside = (s : SetupData) (B : List BodyData) → AreBodies B → (c : CellData) → IsTrue (is_node (positions_of B) c) → IsTrue (contains c ((moments s B c).centre))
+
+-- moments are those of a point: the centre is the position of each member, and there are no second moments
+pub record IsPoint (m : MomentsData) (members : List BodyData) : Type 0 where
+  pub centred : AllByRecursion (λ b. b.motion.pos ≡ m.centre) members
+  pub round : m.quad ≡ record { xx = pos 0; yy = pos 0; zz = pos 0; xy = pos 0; xz = pos 0; yz = pos 0 }
+
+-- a leaf is a point
+abbrev pub LeavesArePoints : Type 0
+LeavesArePoints = (s : SetupData) (B : List BodyData) → AreBodies B → (c : CellData) → IsTrue (is_node (positions_of B) c) → IsTrue (is_leaf (positions_of B) c) → IsPoint (moments s B c) (members B c)

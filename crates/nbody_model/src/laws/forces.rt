@@ -1,5 +1,5 @@
 // What holds of forces.
-ghost use Rattle.nbody_model.specs.Laws.{ForcesAreBounded, ForcesCancel, NodeTotalsAreBounded, OpeningIsSound, SharesAddUp};
+ghost use Rattle.nbody_model.specs.Laws.{CentresLieInside, ForcesAreBounded, ForcesCancel, LeavesArePoints, NodeTotalsAreBounded, OpeningIsSound, SharesAddUp};
 
 /// The shares that the members of a node get of a total add up to it.
 pub fn shares_add_up()
@@ -24,4 +24,14 @@ pub fn node_totals_are_bounded()
 /// Forces are at most what the greatest force of a pair and the mass of all bodies allow.
 pub fn forces_are_bounded()
     ensures { ForcesAreBounded }
+{}
+
+/// The centre of a node lies in it.
+pub fn centres_lie_inside()
+    ensures { CentresLieInside }
+{}
+
+/// A leaf's centre is the position of its members, and it has no second moments.
+pub fn leaves_are_points()
+    ensures { LeavesArePoints }
 {}
