@@ -28,7 +28,7 @@ use Rattle.nbody_model.proofs.Partners.{partners_few}
 
 -- ---- a node's total
 
-total_within : {X : Type 0} (f : X → ℤ) (g : X → ℕ) (xs : List X) → ((x : X) → Among x xs → unsigned_abs (f x) ≤ g x) → unsigned_abs (total_by f xs) ≤ sum_by g xs
+pub total_within : {X : Type 0} (f : X → ℤ) (g : X → ℕ) (xs : List X) → ((x : X) → Among x xs → unsigned_abs (f x) ≤ g x) → unsigned_abs (total_by f xs) ≤ sum_by g xs
 total_within f g [] h = omega (arith, ints)
 total_within f g (x ∷ xs) h = omega (arith, ints, sum_by-cons g x xs, h x (inl refl), total_within f g xs (λ y k. h y (inr k)))
 

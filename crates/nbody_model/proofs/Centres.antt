@@ -56,7 +56,7 @@ all_among P (x ∷ xs) h = (h x (inl refl), all_among P xs (λ y k. h y (inr k))
 -- ---- the centre lies in its node
 
 -- the numbers with one upper part
-same_upper : (n k w : ℕ) → 0 < w → n / w ≡ k → (k * w ≤ n) × (n ≤ k * w + w - 1)
+pub same_upper : (n k w : ℕ) → 0 < w → n / w ≡ k → (k * w ≤ n) × (n ≤ k * w + w - 1)
 same_upper n k w h e = let d : n / w * w + n % w ≡ n = div-add-mod' n w in let r : n % w < w = mod_below n w h in let q : n / w * w ≡ k * w = ap (λ t. t * w) e in (omega arith, omega arith)
 
 upper_same : (n k w : ℕ) → 0 < w → k * w ≤ n → n ≤ k * w + w - 1 → n / w ≡ k
@@ -72,7 +72,7 @@ centre_axis axis k w ms h some e =
     mean_between axis (k * w) (k * w + w - 1) ms some (all_among (λ b. k * w ≤ axis b) ms (λ b j. (same_upper (axis b) k w h (e b j)).0)) (all_among (λ b. axis b ≤ k * w + w - 1) ms (λ b j. (same_upper (axis b) k w h (e b j)).1)) in
     upper_same (sum_by (λ b. b.mass * axis b) ms / mass_of ms) k w h m.0 m.1
 
-member_in : (B : List BodyData) (c : CellData) (b : BodyData) → Among b (members B c) → cell_at c.level b.motion.pos ≡ c
+pub member_in : (B : List BodyData) (c : CellData) (b : BodyData) → Among b (members B c) → cell_at c.level b.motion.pos ≡ c
 member_in B c b h = (contains-exact c b.motion.pos).0 (among-kept (λ b. contains c b.motion.pos) b B h).1
 
 pub centre_contained : (B : List BodyData) (c : CellData) → 0 < mass_of (members B c) → contains c (centre_of (members B c)) ≡ true

@@ -1,5 +1,5 @@
 -- The laws of the definitions.
-use Rattle.std.specs.Prelude.{◌≡◌, ◌≤◌, ◌<◌, ℕ, ◌+◌, ◌-◌, ◌*◌, Bool, false, ◌&&◌, ◌||◌, if◌then◌else◌, IsTrue, pos, Option, Some, None, ⊤, List, length, map, filter, sum_by}
+use Rattle.std.specs.Prelude.{◌≡◌, ◌≤◌, ◌<◌, ℕ, ◌+◌, ◌-◌, ◌*◌, Bool, false, ◌&&◌, ◌||◌, if◌then◌else◌, IsTrue, pos, unsigned_abs, Option, Some, None, ⊤, List, length, map, filter, sum_by}
 use Rattle.std.specs.List.{AllByRecursion, list_any, count_by}
 use Rattle.std.specs.List.Sorted.{IsStrictlyIncreasing}
 use Rattle.fixed_point.specs.declared.V3.{V3}
@@ -9,7 +9,8 @@ use Rattle.nbody_model.specs.Bodies.{BodyData, IsValid, has, only, total}
 use Rattle.nbody_model.specs.Setups.{SetupData}
 use Rattle.nbody_model.specs.Tables.{Gravity, ExpansionData, IsExpansion, Reaches}
 use Rattle.nbody_model.specs.Nodes.{members, positions_of, is_node, is_leaf}
-use Rattle.nbody_model.specs.Moments.{MomentsData, mass_of, moments}
+use Rattle.nbody_model.specs.Moments.{Symmetric, MomentsData, mass_of, moments}
+use Rattle.nbody_model.specs.OpeningRule.{side}
 use Rattle.nbody_model.specs.Covers.{Opening, opening_of, orient, same_pair, chain, cover, interactions, visited}
 use Rattle.nbody_model.specs.Walks.{found, visits, reached}
 use Rattle.nbody_model.specs.InOrder.{IsOrderOfChildren, found_in, visits_in, is_visit}
@@ -200,3 +201,16 @@ pub record IsPoint (m : MomentsData) (members : List BodyData) : Type 0 where
 -- a leaf is a point
 abbrev pub LeavesArePoints : Type 0
 LeavesArePoints = (s : SetupData) (B : List BodyData) → AreBodies B → (c : CellData) → IsTrue (is_node (positions_of B) c) → IsTrue (is_leaf (positions_of B) c) → IsPoint (moments s B c) (members B c)
+
+-- no component of a matrix is more than n in size
+pub record IsWithinEach (n : ℕ) (q : Symmetric) : Type 0 where
+  pub on_xx : unsigned_abs q.xx ≤ n
+  pub on_yy : unsigned_abs q.yy ≤ n
+  pub on_zz : unsigned_abs q.zz ≤ n
+  pub on_xy : unsigned_abs q.xy ≤ n
+  pub on_xz : unsigned_abs q.xz ≤ n
+  pub on_yz : unsigned_abs q.yz ≤ n
+
+-- the second moments of a node are at most its mass times the square of its side, which for a leaf is 0
+abbrev pub SecondMomentsAreBounded : Type 0
+SecondMomentsAreBounded = (s : SetupData) (B : List BodyData) → AreBodies B → (c : CellData) → IsTrue (is_node (positions_of B) c) → let m = moments s B c in IsWithinEach (m.mass * (side m * side m)) m.quad

@@ -1,5 +1,5 @@
 // What holds of forces.
-ghost use Rattle.nbody_model.specs.Laws.{CentresLieInside, ForcesAreBounded, ForcesCancel, LeavesArePoints, NodeTotalsAreBounded, OpeningIsSound, SharesAddUp};
+ghost use Rattle.nbody_model.specs.Laws.{CentresLieInside, ForcesAreBounded, ForcesCancel, LeavesArePoints, NodeTotalsAreBounded, OpeningIsSound, SecondMomentsAreBounded, SharesAddUp};
 
 /// The shares that the members of a node get of a total add up to it.
 pub fn shares_add_up()
@@ -34,4 +34,9 @@ pub fn centres_lie_inside()
 /// A leaf's centre is the position of its members, and it has no second moments.
 pub fn leaves_are_points()
     ensures { LeavesArePoints }
+{}
+
+/// The second moments of a node are at most its mass times the square of its side.
+pub fn second_moments_are_bounded()
+    ensures { SecondMomentsAreBounded }
 {}
