@@ -159,12 +159,12 @@ fast_good g bin P B inc =
 -- ---- the fast parts of a stopped step
 
 -- what holds of a step in which the ids stay
-abbrev Nests : List ℕ → List ℕ → Stepped → Type 0
+abbrev pub Nests : List ℕ → List ℕ → Stepped → Type 0
 Nests ids P (Going p) = ⊤
 Nests ids P (Refused p e) = ⊤
 Nests ids P (Resting p tick Fs) = Nested ids P Fs
 
-abbrev stay : List ℕ → Progress → Type 0
+abbrev pub stay : List ℕ → Progress → Type 0
 stay ids p = ids_of p.bodies ≡ ids
 
 ids_step : (f : BodyData → BodyData) → ((b : BodyData) → (f b).id ≡ b.id) → (b : BodyData) (t : Bool) → (cond t (f b) b).id ≡ b.id
@@ -220,7 +220,7 @@ rest_nests ids P None tick p = tt
 rest_nests ids P (Some s) tick p = cond_nests ids P (s == tick) (Resting (tell (Rested tick) p) tick []) (Going (tell (Rested tick) p)) tt tt
 
 -- what is known of a finer step
-abbrev Known : List ℕ → (List ℕ → ℕ → Progress → Stepped) → Type 0
+abbrev pub Known : List ℕ → (List ℕ → ℕ → Progress → Stepped) → Type 0
 Known ids finer = (F : List ℕ) (t : ℕ) (p : Progress) → stay ids p → Nests ids F (finer F t p) × Holds (stay ids) (finer F t p)
 
 between_nests : (r : Rules) (ids : List ℕ) (stop : Option ℕ) (finer : List ℕ → ℕ → Progress → Stepped) → Known ids finer → (bin : ℕ) (P F : List ℕ) (t : ℕ) (p : Progress) → stay ids p →
@@ -258,7 +258,7 @@ step_nests r ids inc stop finer f bin P t p h =
     (bind_nests ids P first (λ q. between stop finer bin F t q) (moves_nest ids P first (kick_moves r bin P F t k known)) held (λ q g. between_nests r ids stop finer f bin P F t q g whole part))
     kept (λ q g. moves_nest ids P (close r bin P F t q) (close_moves r bin P F t q)))
 
-evolve_known : (r : Rules) (ids : List ℕ) → IsStrictlyIncreasing ids → (stop : Option ℕ) (bin : ℕ) → Known ids (evolve r stop bin)
+pub evolve_known : (r : Rules) (ids : List ℕ) → IsStrictlyIncreasing ids → (stop : Option ℕ) (bin : ℕ) → Known ids (evolve r stop bin)
 unfolding evolve
 evolve_known r ids inc stop zero F t p h = (tt, h)
 evolve_known r ids inc stop (suc c) F t p h = (step_nests r ids inc stop (evolve r stop c) (evolve_known r ids inc stop c) (c + 1) F t p h, evolves r (stay ids) (stays r ids) stop (suc c) F t p h)

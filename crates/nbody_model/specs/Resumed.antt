@@ -1,12 +1,11 @@
 -- A session that was stopped and resumed goes on as one that wasn't.
-use Rattle.std.specs.Prelude.{◌≡◌, ◌≤◌, ◌⊎◌, ℕ, ◌^◌, Bool, true, false, List, [], ◌∷◌, ◌++◌, flat_map, Option, None}
+use Rattle.std.specs.Prelude.{◌≡◌, ◌⊎◌, ℕ, true, false, List, [], ◌∷◌, ◌++◌, flat_map, Option, None}
 use Rattle.std.specs.List.Sorted.{IsStrictlyIncreasing}
 use Rattle.nbody_model.specs.declared.kicks.Record.{Record}
 use Rattle.nbody_model.specs.Bodies.{BodyData}
 use Rattle.nbody_model.specs.Setups.{IsSetup}
-use Rattle.nbody_model.specs.Evolve.{records_of}
 use Rattle.nbody_model.specs.States.{StateData, IsStart}
-use Rattle.nbody_model.specs.Session.{Plan, Written, Snapshot, Restart, SessionData, End, Done, session, records, kept}
+use Rattle.nbody_model.specs.Session.{Plan, Written, Snapshot, Restart, SessionData, Done, session, records, kept}
 use Rattle.nbody_model.specs.Nests.{ids_of}
 
 -- what a snapshot shows: its number, its bodies and its tick
@@ -43,3 +42,9 @@ pub record GoesOn (D E : SessionData) : Type 0 where
 abbrev pub IsOneOf : {X : Type 0} → X → List X → Type 0
 IsOneOf x [] = ⊥
 IsOneOf x (y ∷ ys) = (x ≡ y) ⊎ IsOneOf x ys
+
+-- whatever state a run from tick 0 has at a synchronisation, or where it is stopped at a resting point: a session that is
+-- resumed from the restart file of that state goes on as the run does that isn't stopped
+abbrev pub SessionsGoOn : Type 0
+SessionsGoOn = (plan : Plan) (stop : Option ℕ) (σ : StateData) → IsStart σ → IsStrictlyIncreasing (ids_of σ.bodies) → IsSetup plan.rules.gravity.setup →
+    (τ : StateData) → IsOneOf τ (session plan false stop σ).states → GoesOn (session plan false None σ) (session plan true None (kept τ))

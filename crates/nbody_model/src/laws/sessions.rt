@@ -2,6 +2,7 @@
 ghost use Rattle.nbody_model.specs.Conserved.{ContinuesConserve, EvolvesConserve, SessionsConserve};
 ghost use Rattle.nbody_model.specs.Nests.{ContinueFinishes};
 ghost use Rattle.nbody_model.specs.Rests.{StepsGoOn};
+ghost use Rattle.nbody_model.specs.Resumed.{SessionsGoOn};
 
 /// A step conserves ids, kinds, masses and the momentum of all bodies together, and each of its kicks tells that
 /// momentum, however it ends.
@@ -29,4 +30,10 @@ pub fn steps_go_on()
 /// as the step would have gone on.
 pub fn continue_finishes()
     ensures { ContinueFinishes }
+{}
+
+/// A session that is resumed from the restart file of a state of a run from tick 0, at a synchronisation or at a resting
+/// point, has the later snapshots and kicks and the end of that run without a stop.
+pub fn sessions_go_on()
+    ensures { SessionsGoOn }
 {}
