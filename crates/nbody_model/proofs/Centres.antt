@@ -43,7 +43,7 @@ quotient_low n m low h k =
     below_from P f (inl p) = absurd (f p)
     below_from P f (inr p) = p
 
-quotient_high : (n m high : ℕ) → 0 < m → n ≤ m * high → n / m ≤ high
+pub quotient_high : (n m high : ℕ) → 0 < m → n ≤ m * high → n / m ≤ high
 quotient_high n m high h k = let s : (high + 1) * m ≡ m * high + m = omega arith in let t : n / m < high + 1 = div_below n m (high + 1) h (omega arith) in omega arith
 
 pub mean_between : (axis : BodyData → ℕ) (low high : ℕ) (ms : List BodyData) → 0 < mass_of ms → AllByRecursion (λ b. low ≤ axis b) ms → AllByRecursion (λ b. axis b ≤ high) ms → (low ≤ sum_by (λ b. b.mass * axis b) ms / mass_of ms) × (sum_by (λ b. b.mass * axis b) ms / mass_of ms ≤ high)
