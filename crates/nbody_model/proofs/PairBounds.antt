@@ -16,7 +16,7 @@ use Rattle.nbody_model.proofs.Centres.{quotient_high}
 
 -- ---- numbers times and over natural ones
 
-times_size : (n : ℕ) (z : ℤ) → unsigned_abs (n · z) ≡ n * unsigned_abs z
+pub times_size : (n : ℕ) (z : ℤ) → unsigned_abs (n · z) ≡ n * unsigned_abs z
 times_size n z = unsigned_abs-mul (pos n) z
 
 quot_size : (z : ℤ) (n : ℕ) → unsigned_abs (z ÷ n) ≡ unsigned_abs z / n

@@ -1,17 +1,18 @@
 -- The laws of the definitions.
-use Rattle.std.specs.Prelude.{◌≡◌, ◌≤◌, ◌<◌, ℕ, ◌+◌, ◌-◌, ◌*◌, Bool, false, ◌&&◌, ◌||◌, if◌then◌else◌, IsTrue, pos, unsigned_abs, Option, Some, None, ⊤, List, length, map, filter, sum_by}
+use Rattle.std.specs.Prelude.{◌≡◌, ◌≤◌, ◌<◌, ℕ, ◌+◌, ◌-◌, ◌*◌, ◌^◌, Bool, true, false, ◌&&◌, ◌||◌, if◌then◌else◌, IsTrue, pos, unsigned_abs, Option, Some, None, ⊤, List, length, map, filter, sum_by}
 use Rattle.std.specs.List.{AllByRecursion, list_any, count_by}
 use Rattle.std.specs.List.Sorted.{IsStrictlyIncreasing}
 use Rattle.fixed_point.specs.declared.V3.{V3}
 use Rattle.fixed_point.specs.Vectors.{origin, sum_of, IsAtMost}
 use Rattle.cell_space.specs.Cells.{Position, CellData, InBox, AreDisjoint, contains, child, below, same_cell, same_place, before}
 use Rattle.nbody_model.specs.Bodies.{BodyData, IsValid, has, only, total}
-use Rattle.nbody_model.specs.Setups.{SetupData}
-use Rattle.nbody_model.specs.Tables.{Gravity, ExpansionData, IsExpansion, Reaches}
+use Rattle.nbody_model.specs.Setups.{SetupData, IsSetup}
+use Rattle.nbody_model.specs.Tables.{Gravity, TableData, ExpansionData, IsExpansion, Reaches}
 use Rattle.nbody_model.specs.Nodes.{members, positions_of, is_node, is_leaf}
 use Rattle.nbody_model.specs.Moments.{Symmetric, MomentsData, mass_of, moments}
 use Rattle.nbody_model.specs.OpeningRule.{side}
-use Rattle.nbody_model.specs.Covers.{Opening, opening_of, orient, same_pair, chain, cover, interactions, visited}
+use Rattle.nbody_model.specs.Correction.{correction}
+use Rattle.nbody_model.specs.Covers.{Opening, opening_of, orient, same_pair, chain, cover, final, interactions, visited}
 use Rattle.nbody_model.specs.Walks.{found, visits, reached}
 use Rattle.nbody_model.specs.InOrder.{IsOrderOfChildren, found_in, visits_in, is_visit}
 use Rattle.nbody_model.specs.Force.{share_of, pair_force, node_total, force_at, forces}
@@ -214,3 +215,16 @@ pub record IsWithinEach (n : ℕ) (q : Symmetric) : Type 0 where
 -- the second moments of a node are at most its mass times the square of its side, which for a leaf is 0
 abbrev pub SecondMomentsAreBounded : Type 0
 SecondMomentsAreBounded = (s : SetupData) (B : List BodyData) → AreBodies B → (c : CellData) → IsTrue (is_node (positions_of B) c) → let m = moments s B c in IsWithinEach (m.mass * (side m * side m)) m.quad
+
+-- each interaction is final
+abbrev pub InteractionsAreFinal : Type 0
+InteractionsAreFinal = (o : Opening) → IsSound o → AllByRecursion (λ x. final o x.0 x.1 ≡ true) (interactions o)
+
+-- no correction out of a table, where there is one, is more than 2^31 on an axis, for a way of at most half the box
+abbrev pub CorrectsLittle : Option TableData → Type 0
+CorrectsLittle None = ⊤
+CorrectsLittle (Some t) = (d : V3) → IsAtMost (2 ^ 31) d → IsAtMost (2 ^ 31) (correction t d)
+
+-- the force of each interaction is below 2^87 on each axis
+abbrev pub PairForcesAreBounded : Type 0
+PairForcesAreBounded = (g : Gravity) (B : List BodyData) → IsSetup g.setup → AreBodies B → AllByRecursion (λ b. b.kind ≤ 5) B → CorrectsLittle g.table → PairsAreAtMost g B (2 ^ 86)

@@ -1,5 +1,5 @@
 // What holds of cells, chains and covers.
-ghost use Rattle.nbody_model.specs.Laws.{ChainsAreDisjoint, EachTwoHaveOneCover, MembersPart, PairsOfNodes, PartnersAreDisjoint, PartnersAreFew};
+ghost use Rattle.nbody_model.specs.Laws.{ChainsAreDisjoint, EachTwoHaveOneCover, InteractionsAreFinal, MembersPart, PairsOfNodes, PartnersAreDisjoint, PartnersAreFew};
 
 /// Each member of a cell is a member of exactly one of its children, and there are no others.
 pub fn members_part()
@@ -29,4 +29,9 @@ pub fn partners_are_few()
 /// Interactions and visited pairs are pairs of nodes with nothing in common, and none stands twice.
 pub fn pairs_of_nodes()
     ensures { PairsOfNodes }
+{}
+
+/// Each interaction is final: two leaves, or an accepted pair.
+pub fn interactions_are_final()
+    ensures { InteractionsAreFinal }
 {}

@@ -1,5 +1,5 @@
 // What holds of forces.
-ghost use Rattle.nbody_model.specs.Laws.{CentresLieInside, ForcesAreBounded, ForcesCancel, LeavesArePoints, NodeTotalsAreBounded, OpeningIsSound, SecondMomentsAreBounded, SharesAddUp};
+ghost use Rattle.nbody_model.specs.Laws.{CentresLieInside, ForcesAreBounded, ForcesCancel, LeavesArePoints, NodeTotalsAreBounded, OpeningIsSound, PairForcesAreBounded, SecondMomentsAreBounded, SharesAddUp};
 
 /// The shares that the members of a node get of a total add up to it.
 pub fn shares_add_up()
@@ -39,4 +39,9 @@ pub fn leaves_are_points()
 /// The second moments of a node are at most its mass times the square of its side.
 pub fn second_moments_are_bounded()
     ensures { SecondMomentsAreBounded }
+{}
+
+/// The force of each interaction is below 2^87 on each axis.
+pub fn pair_forces_are_bounded()
+    ensures { PairForcesAreBounded }
 {}
