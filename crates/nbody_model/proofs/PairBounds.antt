@@ -1,6 +1,6 @@
 -- Bounds of the force of a pair.
-use Rattle.std.proofs.Common.{◌≡◌, ℕ, ◌+◌, ◌-◌, ◌*◌, ◌/◌, ◌^◌, ◌<◌, ◌≤◌, max, Bool, true, false, refl, ap, sym, subst, ◌∙◌, arith, ◌⊎◌, inl, inr, ℤ, pos, negsuc, ◌+ℤ◌, ◌-ℤ◌, ◌*ℤ◌}
-use Rattle.std.specs.Prelude.{unsigned_abs, int_div}
+use Rattle.std.proofs.Common.{◌≡◌, ℕ, ◌+◌, ◌*◌, ◌/◌, ◌^◌, ◌<◌, ◌≤◌, refl, arith, ◌⊎◌, inl, inr, ℤ, pos, negsuc, ◌+ℤ◌, ◌-ℤ◌, ◌*ℤ◌}
+use Rattle.std.specs.Prelude.{unsigned_abs}
 use Rattle.std.proofs.lemmas.Int.{ints, unsigned_abs-mul}
 use Rattle.std.proofs.lemmas.Nat.{mul-le}
 use Rattle.std.proofs.lemmas.Bool.{cases_lt}
@@ -9,7 +9,6 @@ use Rattle.fixed_point.specs.Vectors.{each, IsAtMost}
 use Rattle.fixed_point.specs.Fixed.{IsRoot}
 use Rattle.nbody_model.specs.Scaling.{◌·◌, ◌÷◌}
 use Rattle.nbody_model.specs.Moments.{Symmetric, MomentsData}
-use Rattle.nbody_model.specs.OpeningRule.{square}
 use Rattle.nbody_model.specs.PairForce.{mono, times, dot, each6, quadrupole}
 use Rattle.nbody_model.specs.Laws.{IsWithinEach}
 use Rattle.nbody_model.proofs.Centres.{quotient_high}

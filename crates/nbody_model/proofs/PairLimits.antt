@@ -1,13 +1,13 @@
 -- Each interaction's force is bounded.
-use Rattle.std.proofs.Common.{◌≡◌, ℕ, zero, suc, ◌+◌, ◌-◌, ◌*◌, ◌/◌, ◌^◌, ◌%◌, ◌<◌, ◌≤◌, max, Bool, true, false, cond, ltb, ◌&&◌, ◌||◌, List, [], ◌∷◌, map, sum_by, fold, refl, ap, sym, subst, ◌∙◌, arith, ◌⊎◌, inl, inr, ℤ, pos, negsuc, ◌+ℤ◌, ◌*ℤ◌, Option, Some, None}
-use Rattle.std.specs.Prelude.{unsigned_abs, slice_index}
-use Rattle.std.specs.List.{filter, AllByRecursion}
-use Rattle.std.proofs.lemmas.Int.{ints, unsigned_abs-mul}
+use Rattle.std.proofs.Common.{◌≡◌, ℕ, zero, suc, ◌+◌, ◌-◌, ◌*◌, ◌^◌, ◌%◌, ◌<◌, ◌≤◌, max, Bool, true, false, cond, ltb, ◌&&◌, List, [], ◌∷◌, map, sum_by, fold, refl, ap, sym, subst, ◌∙◌, arith, ◌⊎◌, inl, inr, ℤ, pos, negsuc, ◌+ℤ◌, Option, Some, None}
+use Rattle.std.specs.Prelude.{unsigned_abs}
+use Rattle.std.specs.List.{AllByRecursion}
+use Rattle.std.proofs.lemmas.Int.{ints}
 use Rattle.std.proofs.lemmas.Nat.{mul-le, mod_below}
-use Rattle.std.proofs.lemmas.Bool.{cases_lt, or_cases, and_parts, ltb-true, lt-ltb, le-ltb, false≢true, cond-true}
+use Rattle.std.proofs.lemmas.Bool.{cases_lt, or_cases, and_parts, ltb-true, lt-ltb, le-ltb}
 use Rattle.std.proofs.lemmas.List.Sums.{sum_by-cons}
 use Rattle.fixed_point.specs.declared.V3.{V3}
-use Rattle.fixed_point.specs.Vectors.{each, plus, origin, IsAtMost}
+use Rattle.fixed_point.specs.Vectors.{origin, IsAtMost}
 use Rattle.fixed_point.specs.Fixed.{IsRoot, root, wrapped}
 use Rattle.fixed_point.proofs.Roots.{IsRoot-root}
 use Rattle.cell_space.specs.Cells.{Position, CellData, contains, before, same_place, InBox, AreDisjoint, width_of}
@@ -15,16 +15,16 @@ use Rattle.nbody_model.specs.Bodies.{BodyData}
 use Rattle.nbody_model.specs.Setups.{SetupData, IsSetup}
 use Rattle.nbody_model.specs.Tables.{Gravity, TableData}
 use Rattle.nbody_model.specs.Nodes.{members, positions_of, is_node, is_leaf}
-use Rattle.nbody_model.specs.Moments.{Symmetric, MomentsData, mass_of, soft_of, greatest_soft, moments}
+use Rattle.nbody_model.specs.Moments.{MomentsData, mass_of, soft_of, moments}
 use Rattle.nbody_model.specs.OpeningRule.{way, square, side, accept}
 use Rattle.nbody_model.specs.Correction.{correction}
 use Rattle.nbody_model.specs.Scaling.{◌·◌, ◌÷◌}
-use Rattle.nbody_model.specs.PairForce.{mono, each6, quadrupole, images, pair}
-use Rattle.nbody_model.specs.Covers.{Opening, opening_of, final, orient, cover, chain, interactions}
+use Rattle.nbody_model.specs.PairForce.{mono, quadrupole, images, pair}
+use Rattle.nbody_model.specs.Covers.{Opening, opening_of, final, cover, chain, interactions}
 use Rattle.nbody_model.specs.Force.{pair_force}
-use Rattle.nbody_model.specs.Laws.{IsSound, AreBodies, IsWithinEach, IsPairOfNodes, ArePairsOfNodes, CorrectsLittle}
+use Rattle.nbody_model.specs.Laws.{IsSound, AreBodies, IsWithinEach, IsPairOfNodes, CorrectsLittle}
 use Rattle.nbody_model.proofs.Among.{Among, Witness, each-among, any-witness, among-filter, among-kept}
-use Rattle.nbody_model.proofs.Sums.{sum_by-same, sum_by-zero}
+use Rattle.nbody_model.proofs.Sums.{sum_by-zero}
 use Rattle.nbody_model.proofs.Walk.{box_of, filter_sum}
 use Rattle.nbody_model.proofs.Same.{final_fair}
 use Rattle.nbody_model.proofs.ChainFacts.{at_final, chain-last}
@@ -45,6 +45,7 @@ cover_final o p q u v differ = from (final o (cover o p q).0 (cover o p q).1) re
   where
     none : ◌≡◌ {A = ℕ} (cond (final o (cover o p q).0 (cover o p q).1) 0 1) 0
     none = sym (chain-last o p q (λ x. cond (final o x.0 x.1) 0 1) u v differ) ∙ sum_by-zero (at_final o (λ x. cond (final o x.0 x.1) 0 1)) (λ x. final_twice (final o x.0 x.1)) (chain o p q)
+
     from : (b : Bool) → final o (cover o p q).0 (cover o p q).1 ≡ b → b ≡ true
     from true e = refl
     from false e = absurd (let k : ◌≡◌ {A = ℕ} (cond (final o (cover o p q).0 (cover o p q).1) 0 1) 1 = ap {B = ℕ} (λ b. cond b 0 1) e in let n : ◌≡◌ {A = ℕ} (cond (final o (cover o p q).0 (cover o p q).1) 0 1) 0 = none in omega arith)
@@ -106,8 +107,12 @@ two_masses t u (b ∷ bs) h = omega (arith, sum_by-cons (λ b. cond (t b) b.mass
 
 disjoint_masses : (B : List BodyData) (a b : CellData) → AreDisjoint a b → mass_of (members B a) + mass_of (members B b) ≤ mass_of B
 disjoint_masses B a b d =
-    omega (arith, filter_sum (λ i. contains a i.motion.pos) (λ b. b.mass) B, filter_sum (λ i. contains b i.motion.pos) (λ b. b.mass) B,
-      two_masses (λ i. contains a i.motion.pos) (λ i. contains b i.motion.pos) B (λ i. d.apart i.motion.pos))
+    omega (
+      arith,
+      filter_sum (λ i. contains a i.motion.pos) (λ b. b.mass) B,
+      filter_sum (λ i. contains b i.motion.pos) (λ b. b.mass) B,
+      two_masses (λ i. contains a i.motion.pos) (λ i. contains b i.motion.pos) B (λ i. d.apart i.motion.pos),
+    )
 
 -- two numbers that add up to at most 2 n have a product of at most n squared
 product_low : (a b n x : ℕ) → a + x ≡ n → b ≤ n + x → a * b ≤ n * n
@@ -196,16 +201,16 @@ pair_within g A B m =
     let strong : strength ≤ 2 ^ 94 = (let u : g.setup.gravity * (A.mass * B.mass) ≤ 2 ^ 32 * 2 ^ 62 = mul-le g.setup.gravity (A.mass * B.mass) (2 ^ 32) (2 ^ 62) m.gravity m.light in let v : g.setup.gravity * A.mass * B.mass ≡ g.setup.gravity * (A.mass * B.mass) = omega arith in omega arith) in
     let wide : 2 ^ 16 ≤ r2 = omega arith in
     let joint : (qa qb : ℤ) → unsigned_abs qa ≤ A.mass * (side A * side A) → unsigned_abs qb ≤ B.mass * (side B * side B) → unsigned_abs (A.mass · qb +ℤ B.mass · qa) ≤ 2 ^ 62 * r2 = λ qa qb h k.
-        joint_axis A.mass B.mass qa qb (side A * side A) (side B * side B) (square d) r2 h k m.sides m.light (omega arith) in
+    joint_axis A.mass B.mass qa qb (side A * side A) (side B * side B) (square d) r2 h k m.sides m.light (omega arith) in
     let one : IsAtMost (2 ^ 78) (mono strength r2 r d) = mono_within strength r2 r d strong wide some at in
     let two : IsAtMost (2 ^ 85) (quadrupole g.setup.gravity A B r2 r d) = quadrupole_within g.setup.gravity A B r2 r d m.gravity wide some at (record {
-        on_xx = joint A.quad.xx B.quad.xx m.quad_first.on_xx m.quad_second.on_xx;
-        on_yy = joint A.quad.yy B.quad.yy m.quad_first.on_yy m.quad_second.on_yy;
-        on_zz = joint A.quad.zz B.quad.zz m.quad_first.on_zz m.quad_second.on_zz;
-        on_xy = joint A.quad.xy B.quad.xy m.quad_first.on_xy m.quad_second.on_xy;
-        on_xz = joint A.quad.xz B.quad.xz m.quad_first.on_xz m.quad_second.on_xz;
-        on_yz = joint A.quad.yz B.quad.yz m.quad_first.on_yz m.quad_second.on_yz;
-      }) in
+      on_xx = joint A.quad.xx B.quad.xx m.quad_first.on_xx m.quad_second.on_xx;
+      on_yy = joint A.quad.yy B.quad.yy m.quad_first.on_yy m.quad_second.on_yy;
+      on_zz = joint A.quad.zz B.quad.zz m.quad_first.on_zz m.quad_second.on_zz;
+      on_xy = joint A.quad.xy B.quad.xy m.quad_first.on_xy m.quad_second.on_xy;
+      on_xz = joint A.quad.xz B.quad.xz m.quad_first.on_xz m.quad_second.on_xz;
+      on_yz = joint A.quad.yz B.quad.yz m.quad_first.on_yz m.quad_second.on_yz;
+    }) in
     let three : IsAtMost (2 ^ 31) (images strength g.table d) = m.little strength strong in
     record {
       on_x = three_within (mono strength r2 r d).x (quadrupole g.setup.gravity A B r2 r d).x (images strength g.table d).x one.on_x two.on_x three.on_x;
@@ -285,7 +290,7 @@ pairs_bounded g B h a kinds c =
     let o : Opening = opening_of g.setup B in
     let s : IsSound o = opening_sound g.setup B a.in_box in
     all_from (λ x. IsAtMost (2 ^ 86) (pair_force g B x)) (interactions o) (λ x k.
-      pair_within g (moments g.setup B x.0) (moments g.setup B x.1) (moderate g B h a kinds c x (each-among (IsPairOfNodes o) x (interactions o) (pairs_of_nodes o s).interactions_each k) (interaction_final o s x k)))
+    pair_within g (moments g.setup B x.0) (moments g.setup B x.1) (moderate g B h a kinds c x (each-among (IsPairOfNodes o) x (interactions o) (pairs_of_nodes o s).interactions_each k) (interaction_final o s x k)))
 
 pub interactions_final : (o : Opening) → IsSound o → AllByRecursion (λ x. final o x.0 x.1 ≡ true) (interactions o)
 interactions_final o s = all_from (λ x. final o x.0 x.1 ≡ true) (interactions o) (interaction_final o s)

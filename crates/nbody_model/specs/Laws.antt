@@ -7,7 +7,7 @@ use Rattle.fixed_point.specs.Vectors.{origin, sum_of, IsAtMost}
 use Rattle.cell_space.specs.Cells.{Position, CellData, InBox, AreDisjoint, contains, child, below, same_cell, same_place, before}
 use Rattle.nbody_model.specs.Bodies.{BodyData, IsValid, has, only, total}
 use Rattle.nbody_model.specs.Setups.{SetupData, IsSetup}
-use Rattle.nbody_model.specs.Tables.{Gravity, TableData, ExpansionData, IsExpansion, Reaches}
+use Rattle.nbody_model.specs.Tables.{Gravity, TableData, IsTable, ExpansionData, IsExpansion, Reaches}
 use Rattle.nbody_model.specs.Nodes.{members, positions_of, is_node, is_leaf}
 use Rattle.nbody_model.specs.Moments.{Symmetric, MomentsData, mass_of, moments}
 use Rattle.nbody_model.specs.OpeningRule.{side}
@@ -228,3 +228,7 @@ CorrectsLittle (Some t) = (d : V3) → IsAtMost (2 ^ 31) d → IsAtMost (2 ^ 31)
 -- the force of each interaction is below 2^87 on each axis
 abbrev pub PairForcesAreBounded : Type 0
 PairForcesAreBounded = (g : Gravity) (B : List BodyData) → IsSetup g.setup → AreBodies B → AllByRecursion (λ b. b.kind ≤ 5) B → CorrectsLittle g.table → PairsAreAtMost g B (2 ^ 86)
+
+-- a table that keeps its limits corrects little
+abbrev pub TablesCorrectLittle : Type 0
+TablesCorrectLittle = (t : TableData) → IsTable t → CorrectsLittle (Some t)

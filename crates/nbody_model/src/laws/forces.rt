@@ -1,5 +1,5 @@
 // What holds of forces.
-ghost use Rattle.nbody_model.specs.Laws.{CentresLieInside, ForcesAreBounded, ForcesCancel, LeavesArePoints, NodeTotalsAreBounded, OpeningIsSound, PairForcesAreBounded, SecondMomentsAreBounded, SharesAddUp};
+ghost use Rattle.nbody_model.specs.Laws.{CentresLieInside, ForcesAreBounded, ForcesCancel, LeavesArePoints, NodeTotalsAreBounded, OpeningIsSound, PairForcesAreBounded, SecondMomentsAreBounded, SharesAddUp, TablesCorrectLittle};
 
 /// The shares that the members of a node get of a total add up to it.
 pub fn shares_add_up()
@@ -44,4 +44,9 @@ pub fn second_moments_are_bounded()
 /// The force of each interaction is below 2^87 on each axis.
 pub fn pair_forces_are_bounded()
     ensures { PairForcesAreBounded }
+{}
+
+/// A correction out of a table is at most 2^31 on each axis.
+pub fn tables_correct_little()
+    ensures { TablesCorrectLittle }
 {}
