@@ -13,8 +13,6 @@ pub mod Walks
 pub mod Force
 pub mod Factors
 pub mod Steps
-pub mod InOrder
-pub mod Laws
 pub mod Evolve
 pub mod States
 pub mod Continue
@@ -23,11 +21,4 @@ pub mod Fields
 pub mod Passes
 pub mod Texts
 pub mod RestartText
-pub mod Still
-pub mod Preserved
-pub mod Conserved
-pub mod Rests
-pub mod Nests
-pub mod Resumed
 pub mod SessionFiles
-pub mod Worked

@@ -5,9 +5,7 @@ mod body;
 mod field;
 mod forces;
 mod kicks;
-pub mod laws;
 mod setup;
-pub mod worked;
 
 pub use body::{Body, Motion};
 pub use field::{Event, EventKind, Field};

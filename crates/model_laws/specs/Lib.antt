@@ -1,0 +1,9 @@
+pub mod InOrder
+pub mod Laws
+pub mod Still
+pub mod Preserved
+pub mod Conserved
+pub mod Rests
+pub mod Nests
+pub mod Resumed
+pub mod Worked

@@ -1,5 +1,0 @@
-use Rattle.nbody_model.proofs.PairLimits.{pairs_bounded}
-use Rattle.nbody_model.proofs.laws.forces.pair_forces_are_bounded.Goals as goal
-
-pub returns : goal.returns
-returns c = pairs_bounded

@@ -1,5 +1,0 @@
-use Rattle.nbody_model.proofs.Second.{second_bounded}
-use Rattle.nbody_model.proofs.laws.forces.second_moments_are_bounded.Goals as goal
-
-pub returns : goal.returns
-returns c = second_bounded

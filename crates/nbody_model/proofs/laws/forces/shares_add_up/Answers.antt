@@ -1,6 +1,0 @@
-use Rattle.std.proofs.Common.{arith}
-use Rattle.nbody_model.proofs.Shares.{shares_add_up, ascending-from}
-use Rattle.nbody_model.proofs.laws.forces.shares_add_up.Goals as goal
-
-pub returns : goal.returns
-returns c = λ ms up some N. shares_add_up ms N (omega arith) (ascending-from ms up)
