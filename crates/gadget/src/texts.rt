@@ -10,8 +10,8 @@ use fixed_point::Memory;
 use output_schedule::OutputErr;
 use param_file::{ParamErr, ParamKind};
 use run_session::Ended;
-use std::alloc::Global;
 use snap_file::SnapErr;
+use std::alloc::Global;
 use store_io::Text;
 use text_words::{push_number, push_unsigned};
 
