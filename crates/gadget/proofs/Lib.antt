@@ -1,1 +1,4 @@
 pub mod Heads
+pub mod Joins
+pub mod Stages
+pub mod StepEnds

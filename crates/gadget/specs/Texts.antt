@@ -25,6 +25,10 @@ use Rattle.gadget.specs.declared.status.Status.TheVariants.{Done, Usage, Memory,
 abbrev pub spaced : ℕ → List ℕ
 spaced n = codes " " ++ decimal n
 
+-- some words and a number
+abbrev pub counted : List ℕ → ℕ → List ℕ
+counted words n = words ++ spaced n
+
 -- three numbers, each after a space
 abbrev pub vector_text : V3 → List ℕ
 vector_text v = codes " " ++ signed_decimal v.x ++ codes " " ++ signed_decimal v.y ++ codes " " ++ signed_decimal v.z
@@ -97,8 +101,8 @@ status_words NotBuilt = codes "not built"
 status_words (Param e) = param_text e
 status_words (Outputs e) = list_text e
 status_words (Snapshot e) = codes "snapshot " ++ snapshot_fault_text e
-status_words (MomRange tick bin id axis) = codes "momentum range tick" ++ spaced tick ++ codes " bin" ++ spaced bin ++ codes " id" ++ spaced id ++ codes " axis" ++ spaced axis
-status_words (StepRange tick id) = codes "step range tick" ++ spaced tick ++ codes " id" ++ spaced id
+status_words (MomRange tick bin id axis) = counted (codes "momentum range tick") tick ++ counted (codes " bin") bin ++ counted (codes " id") id ++ counted (codes " axis") axis
+status_words (StepRange tick id) = counted (codes "step range tick") tick ++ counted (codes " id") id
 
 abbrev pub status_text : Status → List ℕ
 status_text status = status_words status ++ codes "\n"
@@ -123,5 +127,5 @@ show_text head B =
 
 abbrev pub done_text : Ended → List ℕ
 done_text run =
-    codes "done tick" ++ spaced run.tick ++ codes " steps" ++ spaced run.steps ++ codes " snapshots" ++ spaced run.snapshots ++
-    codes " kicks" ++ spaced run.kicks ++ codes " interactions" ++ spaced run.interactions ++ codes " momentum" ++ vector_text (vector run.momentum) ++ codes "\n"
+    counted (codes "done tick") run.tick ++ counted (codes " steps") run.steps ++ counted (codes " snapshots") run.snapshots ++
+    counted (codes " kicks") run.kicks ++ counted (codes " interactions") run.interactions ++ codes " momentum" ++ vector_text (vector run.momentum) ++ codes "\n"

@@ -5,7 +5,7 @@ ghost use Rattle.param_file.specs.Reading.{Spell as SpellParams};
 ghost use Rattle.output_schedule.specs.Times.{Spell as SpellTimes};
 ghost use Rattle.snap_file.specs.Snapshots.{SpellsHead, SpellsSnapshot, IsHeadFault};
 ghost use Rattle.store_io.specs.Causes.{HasCause, read_failed};
-ghost use Rattle.gadget.specs.Inputs.{Seen, WasRead, NotRead, NamesParams, ParamRefusal, ParamAnswer, GivesTimes, NamesTimes, ListRefusal, NamedListRefusal, ListAnswer, NamesBodies, BodiesRefusal, NamesSnapshot, ShowRefusal, SnapshotAnswer, asks_unbuilt, status_of};
+ghost use Rattle.gadget.specs.Inputs.{Seen, WasRead, NotRead, NamesParams, ParamRefusal, ParamAnswer, GivesTimes, NamesTimes, ListRefusal, NamedListRefusal, ListAnswer, NamesBodies, BodiesRefusal, NamesSnapshot, ShowRefusal, SnapshotAnswer, Accepts, InputRefusal, RefusesList, RefusesBodies, asks_unbuilt, status_of};
 
 use crate::status::Status;
 use crate::unbuilt::{asks_unbuilt, two_at_one_position};
@@ -79,8 +79,8 @@ fn params_of(alloc: Global, bytes: &[u8]) -> Result<Params, Status>
     }
 }
 
-/// Reads a parameter file that asks for nothing but what is built.
-pub fn load_params<S: Store>(alloc: Global, store: &mut S, name: &Text) -> Result<Params, Status>
+// Reads a parameter file that asks for nothing but what is built.
+fn load_params<S: Store>(alloc: Global, store: &mut S, name: &Text) -> Result<Params, Status>
     ensures tells { S.tells store.new ≡ S.tells store.old }
     ensures files { S.file store.new ≡ S.file store.old }
     ensures ok { IfOk result (λ p. IsTrue (S.tells store.old) → NamesParams (S.file store.old) name.now p) }
@@ -141,12 +141,8 @@ fn load_list<S: Store>(alloc: Global, store: &mut S, name: &Text) -> Result<Vec<
     times_of(alloc, &bytes)
 }
 
-/// Reads the listed times, none where no list is named.
-pub fn load_outputs<S: Store>(
-    alloc: Global,
-    store: &mut S,
-    params: &Params,
-) -> Result<Vec<u64>, Status>
+// Reads the listed times, none where no list is named.
+fn load_outputs<S: Store>(alloc: Global, store: &mut S, params: &Params) -> Result<Vec<u64>, Status>
     ensures tells { S.tells store.new ≡ S.tells store.old }
     ensures files { S.file store.new ≡ S.file store.old }
     ensures ok { IfOk result (λ v. IsTrue (S.tells store.old)
@@ -223,8 +219,8 @@ pub fn load_snapshot<S: Store>(
     }
 }
 
-/// Reads a snapshot whose bodies are at different positions.
-pub fn load_bodies<S: Store>(alloc: Global, store: &mut S, name: &Text) -> Result<BodySet, Status>
+// Reads a snapshot whose bodies are at different positions.
+fn load_bodies<S: Store>(alloc: Global, store: &mut S, name: &Text) -> Result<BodySet, Status>
     ensures tells { S.tells store.new ≡ S.tells store.old }
     ensures files { S.file store.new ≡ S.file store.old }
     ensures ok { IfOk result (λ B. IsTrue (S.tells store.old) → NamesBodies (S.file store.old) name.now B) }
@@ -250,4 +246,46 @@ pub fn load_bodies<S: Store>(alloc: Global, store: &mut S, name: &Text) -> Resul
         Ok(true) => Err(Status::NotBuilt),
         Err(_) => Err(Status::Memory),
     }
+}
+
+/// What a run is given: its settings, the listed times and the bodies.
+#[derive(Drop)]
+pub struct Inputs {
+    pub params: Params,
+    pub outputs: Vec<u64>,
+    pub set: BodySet,
+}
+
+/// Reads a parameter file, then the list and the snapshot that it names.
+pub fn load_inputs<S: Store>(alloc: Global, store: &mut S, name: &Text) -> Result<Inputs, Status>
+    ensures tells { S.tells store.new ≡ S.tells store.old }
+    ensures files { S.file store.new ≡ S.file store.old }
+    ensures ok { IfOk result (λ i. IsTrue (S.tells store.old)
+        → Accepts (S.file store.old) name.now i.params i.outputs.items i.set) }
+    ensures quiet { OnOk result ((S.faults store.new ≡ S.faults store.old) × (S.last store.new ≡ S.last store.old)) }
+    ensures err { IfErr result (InputRefusal (record {
+      tells = S.tells store.old;
+      files = S.file store.old;
+      faults = S.faults store.old;
+      faults_new = S.faults store.new;
+      last = S.last store.new;
+    }) name.now) }
+{
+    let params = match load_params(alloc, store, name) {
+        Ok(params) => params,
+        Err(status) => return Err(status),
+    };
+    let outputs = match load_outputs(alloc, store, &params) {
+        Ok(outputs) => outputs,
+        Err(status) => return Err(status),
+    };
+    let set = match load_bodies(alloc, store, &params.init_cond_file) {
+        Ok(set) => set,
+        Err(status) => return Err(status),
+    };
+    Ok(Inputs {
+        params,
+        outputs,
+        set,
+    })
 }

@@ -64,6 +64,15 @@ fn push_set_err(line: &mut Vec<u8>, err: &SetErr) -> Result<(), Memory>
     }
 }
 
+fn push_length_err(line: &mut Vec<u8>, name: &[u8; 4], want: u64, got: u64) -> Result<(), Memory>
+    ensures { OnOk result (line.new.items ≡ line.old.items ++ snapshot_fault_text (SnapErr.BlockLength name.now want got)) }
+{
+    push_named(line, b"block length", name)?;
+    push_spaced(line, want)?;
+    push_spaced(line, got)?;
+    Ok(())
+}
+
 /// Puts what is wrong with a snapshot behind a line.
 pub fn push_snap_err(line: &mut Vec<u8>, err: &SnapErr) -> Result<(), Memory>
     ensures { OnOk result (line.new.items ≡ line.old.items ++ snapshot_fault_text err.now) }
@@ -75,11 +84,7 @@ pub fn push_snap_err(line: &mut Vec<u8>, err: &SnapErr) -> Result<(), Memory>
         SnapErr::HeadLength { got } => push_counted(line, b"head length", *got),
         SnapErr::HeadTag => Ok(line.extend_from_slice(b"head tag")?),
         SnapErr::Gas { count } => push_counted(line, b"gas", u64::from(*count)),
-        SnapErr::BlockLength { name, want, got } => {
-            push_named(line, b"block length", name)?;
-            push_spaced(line, *want)?;
-            push_spaced(line, *got)
-        }
+        SnapErr::BlockLength { name, want, got } => push_length_err(line, name, *want, *got),
         SnapErr::Bodies(err) => push_set_err(line, err),
         SnapErr::Memory => Ok(()),
     }

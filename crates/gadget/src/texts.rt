@@ -2,7 +2,7 @@
 ghost use Rattle.std.specs.Prelude.{◌≡◌, ◌++◌, IfOk, OnOk, codes};
 ghost use Rattle.std.specs.Fmt.{signed_decimal};
 ghost use Rattle.nbody_model.specs.Bodies.{vector};
-ghost use Rattle.gadget.specs.Texts.{spaced, vector_text, kind_text, param_text, list_text, status_words, status_text, done_text, IsNotMissing};
+ghost use Rattle.gadget.specs.Texts.{spaced, counted, vector_text, kind_text, param_text, list_text, status_words, status_text, done_text, IsNotMissing};
 
 use crate::snap_texts::{push_snap_err, push_spaced};
 use crate::status::Status;
@@ -49,10 +49,14 @@ pub fn done_line(alloc: Global, run: &Ended) -> Result<Vec<u8>, Memory>
     ensures { IfOk result (λ line. line.items ≡ done_text run.now) }
 {
     let mut line = Vec::new(alloc);
-    push_counted(&mut line, b"done tick", u128::from(run.tick))?;
-    push_counted(&mut line, b" steps", u128::from(run.steps))?;
-    push_counted(&mut line, b" snapshots", u128::from(run.snapshots))?;
-    push_counted(&mut line, b" kicks", u128::from(run.kicks))?;
+    push_two(&mut line, b"done tick", run.tick, b" steps", run.steps)?;
+    push_two(
+        &mut line,
+        b" snapshots",
+        run.snapshots,
+        b" kicks",
+        run.kicks,
+    )?;
     push_counted(&mut line, b" interactions", run.interactions)?;
     line.extend_from_slice(b" momentum")?;
     push_vector(&mut line, &run.momentum)?;
@@ -118,13 +122,21 @@ fn push_name(line: &mut Vec<u8>, words: &[u8], name: &[u8]) -> Result<(), Memory
     Ok(())
 }
 
-fn push_mom_range(line: &mut Vec<u8>, tick: u64, bin: u8, id: u64, axis: u8) -> Result<(), Memory>
+// Twice some words and a number.
+fn push_two(line: &mut Vec<u8>, first: &[u8], m: u64, second: &[u8], n: u64) -> Result<(), Memory>
+    ensures { OnOk result (line.new.items ≡ line.old.items ++ (counted first.now m ++ counted second.now n)) }
+{
+    push_counted(line, first, u128::from(m))?;
+    push_counted(line, second, u128::from(n))?;
+    Ok(())
+}
+
+fn push_mom_range(line: &mut Vec<u8>, tick: u64, bin: u64, id: u64, axis: u64) -> Result<(), Memory>
     ensures { OnOk result (line.new.items ≡ line.old.items ++ status_words (Status.MomRange tick bin id axis)) }
 {
-    push_counted(line, b"momentum range tick", u128::from(tick))?;
-    push_counted(line, b" bin", u128::from(bin))?;
-    push_counted(line, b" id", u128::from(id))?;
-    push_counted(line, b" axis", u128::from(axis))
+    push_two(line, b"momentum range tick", tick, b" bin", bin)?;
+    push_two(line, b" id", id, b" axis", axis)?;
+    Ok(())
 }
 
 fn push_step_range(line: &mut Vec<u8>, tick: u64, id: u64) -> Result<(), Memory>
@@ -169,7 +181,7 @@ fn push_status(line: &mut Vec<u8>, status: &Status) -> Result<(), Memory>
             bin,
             id,
             axis,
-        } => push_mom_range(line, *tick, *bin, *id, *axis),
+        } => push_mom_range(line, *tick, u64::from(*bin), *id, u64::from(*axis)),
         Status::StepRange { tick, id } => push_step_range(line, *tick, *id),
     }
 }

@@ -36,7 +36,7 @@ fn two_bodies_have_472_bytes(rt: HostRuntime) -> Result<(), Fail> {
         8, 0, 0, 0, 0x48, 0x45, 0x41, 0x44, 8, 1, 0, 0, 8, 0, 0, 0, 0, 1, 0, 0, 0x49, 0x34, 0x53,
         0x4e, 0x41, 0x50, 0x30, 0x31,
     ];
-    assert_eq!(rt; &text[..28], head.as_slice());
+    assert_eq!(rt; text.get(..28).ok_or("too short")?, head.as_slice());
     assert_eq!(rt; &text[312..316], [0xe7, 3, 0, 0].as_slice());
     assert_eq!(rt;
         &text[348..356],
@@ -57,7 +57,8 @@ fn faults_are_named(rt: HostRuntime) -> Result<(), Fail> {
         at: 456,
         kind: BlockKind::Truncated,
     });
-    assert!(rt; read_snapshot(alloc, &text[..470]).is_err_and(|e| e == cut));
+    let short = text.get(..470).ok_or("too short")?;
+    assert!(rt; read_snapshot(alloc, short).is_err_and(|e| e == cut));
     let mut frame = snapshot(alloc)?;
     assert_eq!(rt; frame.len(), 472);
     frame[468] = 9;
