@@ -1,20 +1,30 @@
 // Names with a number, and the lines of the kick file.
+ghost use Rattle.std.specs.Prelude.{◌≡◌, IfOk};
+ghost use Rattle.nbody_model.specs.Texts.{three_digits, numbered};
+
 use fixed_point::Memory;
 use nbody_model::Record;
 use std::alloc::Global;
 use store_io::Text;
 use text_words::{push_number, push_unsigned};
 
+// A number with at least three digits.
+fn three_digits(alloc: Global, n: u64) -> Result<Vec<u8>, Memory>
+    ensures { IfOk result (λ digits. digits.items ≡ three_digits n) }
+{
+    let mut digits = Vec::new(alloc);
+    push_unsigned(&mut digits, u128::from(n))?;
+    let mut padded = vec![in alloc; b'0'; 3usize.saturating_sub(digits.len())]?;
+    padded.extend_from_slice(&digits)?;
+    Ok(padded)
+}
+
 /// The base, `_`, and the number with at least three digits.
-pub fn numbered(alloc: Global, base: &Text, n: u64) -> Result<Text, Memory> {
+pub fn numbered(alloc: Global, base: &Text, n: u64) -> Result<Text, Memory>
+    ensures { IfOk result (λ name. name ≡ numbered base.now n) }
+{
     let mut tail = Vec::from_slice(alloc, b"_")?;
-    if n < 100 {
-        tail.push(b'0')?;
-    }
-    if n < 10 {
-        tail.push(b'0')?;
-    }
-    push_unsigned(&mut tail, u128::from(n))?;
+    tail.extend_from_slice(&three_digits(alloc, n)?)?;
     base.with(alloc, &tail)
 }
 
