@@ -1,0 +1,5 @@
+pub mod Axes
+pub mod Chosen
+pub mod FirstOut
+pub mod Moves
+pub mod Rising
