@@ -1,4 +1,5 @@
 pub mod Columns
 pub mod Kinds
 pub mod Snapshots
+pub mod Stored
 pub mod Texts
