@@ -3,6 +3,7 @@ pub mod Faults
 pub mod FiveBlocks
 pub mod Found
 pub mod InKinds
+pub mod NoFault
 pub mod OneReading
 pub mod RoundTrip
 pub mod Writes

@@ -11,14 +11,14 @@ use Rattle.nbody_model.specs.SnapshotText.{head_name}
 use Rattle.particle_set.specs.declared.row.Row.{Row}
 use Rattle.particle_set.specs.Rows.{IsSetOf, body_of}
 use Rattle.snap_file.specs.declared.head.Head.{Head}
-use Rattle.snap_file.specs.Snapshots.{ColumnTexts, AreColumns, HasHead, SpellsSnapshot, contents_named, head_in, rows_in}
+use Rattle.snap_file.specs.Snapshots.{ColumnTexts, AreColumns, HasHead, HasColumns, SpellsSnapshot, contents_named, head_in, rows_in}
 
 -- the body is one of these
-IsIn : BodyData → List BodyData → Type 0
+unfoldable pub IsIn : BodyData → List BodyData → Type 0
 IsIn x [] = ⊥
 IsIn x (y ∷ ys) = (x ≡ y) ⊎ IsIn x ys
 
-Rises : List BodyData → Type 0
+unfoldable pub Rises : List BodyData → Type 0
 Rises [] = Unit {0}
 Rises (b ∷ bs) = ((x : BodyData) → IsIn x bs → b.id < x.id) × Rises bs
 
@@ -33,7 +33,7 @@ unfolding IsIn
 above b c x bs l r (inl e) = subst (λ y. b.id < y.id) (sym e) l
 above b c x bs l r (inr h) = lt_trans l (r x h)
 
-rises : (bs : List BodyData) → IsStrictlyIncreasing (map (λ b. b.id) bs) → Rises bs
+pub rises : (bs : List BodyData) → IsStrictlyIncreasing (map (λ b. b.id) bs) → Rises bs
 unfolding Rises IsIn
 rises [] h = tt
 rises (b ∷ []) h = (λ x i. absurd i, tt)
@@ -84,10 +84,10 @@ one_set rows B C h k =
     (λ x i. at_member (λ y. IsIn y C) B x (All-permutation (λ y. IsIn y C) C B (IsPermutation-sym B C moves) (all_in C)) i)
     (λ x i. at_member (λ y. IsIn y B) C x (All-permutation (λ y. IsIn y B) B C moves (all_in B)) i)
 
-some_same : {A : Type 0} {x y : A} {o : Option A} → o ≡ Some x → o ≡ Some y → x ≡ y
+pub some_same : {A : Type 0} {x y : A} {o : Option A} → o ≡ Some x → o ≡ Some y → x ≡ y
 some_same e f = cc
 
-same_blocks : (bytes : List ℕ) (xs ys : List Block) → Spell bytes xs → Spell bytes ys → xs ≡ ys
+pub same_blocks : (bytes : List ℕ) (xs ys : List Block) → Spell bytes xs → Spell bytes ys → xs ≡ ys
 same_blocks bytes xs ys h k = (read_one_way bytes).one_value xs ys h k
 
 pub one_head : (bytes : List ℕ) (xs ys : List Block) (h k : Head) → HasHead bytes xs h → HasHead bytes ys k → h ≡ k
@@ -96,7 +96,7 @@ one_head bytes xs ys h k p q =
     let texts : p.text ≡ q.text = some_same (subst (λ bs. contents_named bytes head_name bs ≡ Some p.text) same p.found) q.found in
     p.is ∙ ap head_in texts ∙ sym q.is
 
-one_columns : (bytes : List ℕ) (blocks : List Block) (s t : ColumnTexts) → AreColumns bytes blocks s → AreColumns bytes blocks t → s ≡ t
+pub one_columns : (bytes : List ℕ) (blocks : List Block) (s t : ColumnTexts) → AreColumns bytes blocks s → AreColumns bytes blocks t → s ≡ t
 one_columns bytes blocks s t h k =
     let positions : s.positions ≡ t.positions = some_same h.positions k.positions in
     let momenta : s.momenta ≡ t.momenta = some_same h.momenta k.momenta in
@@ -104,12 +104,15 @@ one_columns bytes blocks s t h k =
     let masses : s.masses ≡ t.masses = some_same h.masses k.masses in
     λ i. record { positions = positions i; momenta = momenta i; ids = ids i; masses = masses i }
 
+-- the same bytes have the same rows
+pub same_rows : (bytes : List ℕ) (xs ys : List Block) (h k : Head) (s t : ColumnTexts) → HasColumns bytes xs h s → HasColumns bytes ys k t → rows_in h.counts s ≡ rows_in k.counts t
+same_rows bytes xs ys h k s t p q =
+    let same : xs ≡ ys = same_blocks bytes xs ys p.has_head.blocks_are.spelled q.has_head.blocks_are.spelled in
+    let heads : h ≡ k = one_head bytes xs ys h k p.has_head q.has_head in
+    let columns : s ≡ t = one_columns bytes ys s t (subst (λ bs. AreColumns bytes bs s) same p.found) q.found in
+    ap (λ x. rows_in x.counts s) heads ∙ ap (rows_in k.counts) columns
+
 pub one_snapshot : (bytes : List ℕ) (B C : List BodyData) → SpellsSnapshot bytes B → SpellsSnapshot bytes C → B ≡ C
 one_snapshot bytes B C h k =
-    let same : h.blocks ≡ k.blocks = same_blocks bytes h.blocks k.blocks h.has.has_head.blocks_are.spelled k.has.has_head.blocks_are.spelled in
-    let heads : h.head ≡ k.head = one_head bytes h.blocks k.blocks h.head k.head h.has.has_head k.has.has_head in
-    let columns : h.columns ≡ k.columns =
-    one_columns bytes k.blocks h.columns k.columns (subst (λ bs. AreColumns bytes bs h.columns) same h.has.found) k.has.found in
-    let rows : rows_in h.head.counts h.columns ≡ rows_in k.head.counts k.columns =
-    ap (λ x. rows_in x.counts h.columns) heads ∙ ap (rows_in k.head.counts) columns in
-    one_set (rows_in k.head.counts k.columns) B C (subst (λ rs. IsSetOf rs B) rows h.bodies) k.bodies
+    one_set (rows_in k.head.counts k.columns) B C
+    (subst (λ rs. IsSetOf rs B) (same_rows bytes h.blocks k.blocks h.head k.head h.columns k.columns h.has k.has) h.bodies) k.bodies

@@ -1,4 +1,5 @@
 pub mod Columns
+pub mod Exact
 pub mod Kinds
 pub mod Snapshots
 pub mod Stored

@@ -1,5 +1,6 @@
 // What reading a snapshot gives after it was written.
 ghost use Rattle.std.specs.Prelude.{All};
+ghost use Rattle.snap_file.specs.Exact.{ReadOneWay};
 ghost use Rattle.snap_file.specs.Stored.{IsReadBack, IsStorable};
 
 use nbody_model::Body;
@@ -29,3 +30,8 @@ pub fn written_snapshots_are_read(set: &BodySet, tick: u64, number: u32)
 {
     are_storable(set.bodies());
 }
+
+/// Bytes have at most one head and are a snapshot of at most one set, and a snapshot has no fault.
+pub fn reading_is_exact(bytes: &[u8])
+    ensures { ReadOneWay bytes.now }
+{}
