@@ -1,3 +1,9 @@
-pub mod Writes
-pub mod Found
+pub mod Entries
 pub mod Faults
+pub mod FiveBlocks
+pub mod Found
+pub mod InKinds
+pub mod NoFault
+pub mod OneReading
+pub mod RoundTrip
+pub mod Writes

@@ -7,6 +7,7 @@ mod find;
 mod head;
 mod put;
 mod read;
+mod round_trip;
 mod rows;
 mod write;
 
@@ -14,6 +15,7 @@ pub use errors::SnapErr;
 pub use head::{Head, read_head};
 pub use put::put_snapshot;
 pub use read::read_snapshot;
+pub use round_trip::{reading_is_exact, written_snapshots_are_read};
 pub use write::write_snapshot;
 
 #[cfg(test)]

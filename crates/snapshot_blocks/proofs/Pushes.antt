@@ -1,5 +1,5 @@
 -- What is appended, part by part.
-use Rattle.std.proofs.Common.{◌≡◌, ℕ, List, [], ◌∷◌, ◌++◌, length, get_or, Result, Ok, Err, OnOk, refl, sym, ap, ◌∙◌, append_assoc, arith}
+use Rattle.std.proofs.Common.{◌≡◌, ℕ, List, [], ◌∷◌, ◌++◌, length, get_or, Result, Ok, Err, OnOk, refl, ap, ◌∙◌, append_assoc, arith}
 use Rattle.fixed_point.specs.Bytes.{bytes32, framed}
 use Rattle.snapshot_blocks.specs.Opening.{opening}
 

@@ -1,4 +1,4 @@
-use Rattle.std.proofs.Common.{◌≡◌, ℕ, List, length, ap, sym, arith}
+use Rattle.std.proofs.Common.{ℕ, List, ap, sym, arith}
 use Rattle.snapshot_blocks.specs.Opening.{opening}
 use Rattle.snapshot_blocks.proofs.Pushes.{four}
 use Rattle.snapshot_blocks.proofs.push.opening_bytes.Goals as goal

@@ -1,0 +1,35 @@
+-- How many answers the bytes of a snapshot have.
+use Rattle.std.specs.Prelude.{◌≡◌, ℕ, List}
+use Rattle.nbody_model.specs.Bodies.{BodyData}
+use Rattle.particle_set.specs.declared.row.SetErr.{SetErr}
+use Rattle.particle_set.specs.declared.row.SetErr.TheVariants.{TooMany, Repeated, ZeroMass, MassTotal, MomRange, Memory as NoRoom}
+use Rattle.snap_file.specs.declared.head.Head.{Head}
+use Rattle.snap_file.specs.declared.errors.SnapErr.{SnapErr}
+use Rattle.snap_file.specs.declared.errors.SnapErr.TheVariants.{Block as InFrames, RepeatedBlock, MissingBlock, HeadLength, HeadTag, Gas, BlockLength, Bodies as InBodies, Memory}
+use Rattle.snap_file.specs.Snapshots.{SpellsHead, SpellsSnapshot, IsSnapshotFault}
+
+-- the error is want of memory
+abbrev pub IsRefusalByMemory : SetErr → Type 0
+IsRefusalByMemory (TooMany n) = ⊥
+IsRefusalByMemory (Repeated id) = ⊥
+IsRefusalByMemory (ZeroMass id) = ⊥
+IsRefusalByMemory (MassTotal sum) = ⊥
+IsRefusalByMemory (MomRange id) = ⊥
+IsRefusalByMemory NoRoom = Unit {0}
+
+abbrev pub IsWantOfMemory : SnapErr → Type 0
+IsWantOfMemory (InFrames e) = ⊥
+IsWantOfMemory (RepeatedBlock name) = ⊥
+IsWantOfMemory (MissingBlock name) = ⊥
+IsWantOfMemory (HeadLength got) = ⊥
+IsWantOfMemory HeadTag = ⊥
+IsWantOfMemory (Gas count) = ⊥
+IsWantOfMemory (BlockLength name want got) = ⊥
+IsWantOfMemory (InBodies e) = IsRefusalByMemory e
+IsWantOfMemory Memory = Unit {0}
+
+-- bytes have at most one head, are a snapshot of at most one set, and a snapshot has no fault
+pub record ReadOneWay (bytes : List ℕ) : Type 0 where
+  pub one_head : (h k : Head) → SpellsHead bytes h → SpellsHead bytes k → h ≡ k
+  pub one_value : (B C : List BodyData) → SpellsSnapshot bytes B → SpellsSnapshot bytes C → B ≡ C
+  pub apart : (B : List BodyData) (e : SnapErr) → SpellsSnapshot bytes B → IsSnapshotFault bytes e → IsWantOfMemory e

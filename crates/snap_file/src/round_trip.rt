@@ -1,0 +1,37 @@
+// What reading a snapshot gives after it was written.
+ghost use Rattle.std.specs.Prelude.{All};
+ghost use Rattle.snap_file.specs.Exact.{ReadOneWay};
+ghost use Rattle.snap_file.specs.Stored.{IsReadBack, IsStorable};
+
+use nbody_model::Body;
+use particle_set::BodySet;
+
+fn is_storable(body: &Body)
+    ensures { IsStorable body.now }
+{
+    let _position = body.motion.pos();
+    let _momentum = body.motion.mom();
+    let _id = body.id;
+    let _kind = body.kind;
+    let _mass = body.mass;
+}
+
+fn are_storable(bodies: &[Body])
+    ensures { All IsStorable bodies.now }
+{
+    for body in bodies {
+        is_storable(body);
+    }
+}
+
+/// The text of a snapshot of these bodies is read to its head and to the same bodies. It reads each body once.
+pub fn written_snapshots_are_read(set: &BodySet, tick: u64, number: u32)
+    ensures { IsReadBack set.now tick number }
+{
+    are_storable(set.bodies());
+}
+
+/// Bytes have at most one head and are a snapshot of at most one set, and a snapshot has no fault.
+pub fn reading_is_exact(bytes: &[u8])
+    ensures { ReadOneWay bytes.now }
+{}
