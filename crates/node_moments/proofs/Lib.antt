@@ -1,3 +1,7 @@
 pub mod Joined
 pub mod One
 pub mod Products
+pub mod Signs
+pub mod Centred
+pub mod Extremes
+pub mod Nodes

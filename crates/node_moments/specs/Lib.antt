@@ -1,2 +1,4 @@
 pub mod Sums
 pub mod Joined
+pub mod Computed
+pub mod Conditions

@@ -1,6 +1,8 @@
 //! The moments of nodes, and the sums that they come from.
 #![tactic(auto)]
 
+mod moments;
 mod raw;
 
+pub use moments::Moments;
 pub use raw::Raw;
