@@ -12,7 +12,7 @@ use Rattle.node_moments.specs.Sums.{first, second}
 use Rattle.node_moments.specs.Computed.{about}
 use Rattle.node_moments.proofs.Signs.{product, weighed}
 
-all_first : (p : BodyData → ℕ) (a : ℕ) (ms : List BodyData) → AllByRecursion (λ b. a ≤ p b) ms → sum_by (λ b. b.mass * p b) ms ≡ first (λ b. p b - a) ms + mass_of ms * a
+pub all_first : (p : BodyData → ℕ) (a : ℕ) (ms : List BodyData) → AllByRecursion (λ b. a ≤ p b) ms → sum_by (λ b. b.mass * p b) ms ≡ first (λ b. p b - a) ms + mass_of ms * a
 all_first p a [] h = omega arith
 all_first p a (m ∷ ms) h =
     let e : p m ≡ p m - a + a = omega (arith, h.0) in

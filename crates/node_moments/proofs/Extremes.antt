@@ -17,7 +17,7 @@ max_above : (k : ℕ) (xs : List ℕ) → k ≤ fold max k xs
 max_above k [] = omega arith
 max_above k (x ∷ xs) = let u : max k x ≤ fold max (max k x) xs = max_above (max k x) xs in omega (arith, u)
 
-min_of : (f : BodyData → ℕ) (k : ℕ) (b : BodyData) (ms : List BodyData) → Among b ms → fold min k (map f ms) ≤ f b
+pub min_of : (f : BodyData → ℕ) (k : ℕ) (b : BodyData) (ms : List BodyData) → Among b ms → fold min k (map f ms) ≤ f b
 min_of f k b [] h = absurd h
 min_of f k b (m ∷ ms) (inl e) = let u : fold min (min k (f m)) (map f ms) ≤ min k (f m) = min_below (min k (f m)) (map f ms) in omega (arith, u, ap f e)
 min_of f k b (m ∷ ms) (inr h) = min_of f (min k (f m)) b ms h

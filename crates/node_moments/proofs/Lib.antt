@@ -5,3 +5,4 @@ pub mod Signs
 pub mod Centred
 pub mod Extremes
 pub mod Nodes
+pub mod Shifts

@@ -18,7 +18,7 @@ use Rattle.node_moments.proofs.One.{above_corner}
 use Rattle.node_moments.proofs.Centred.{mean_from, moment_from}
 use Rattle.node_moments.proofs.Extremes.{is_one, leaf_by, max_high, some_of}
 
-all_among : (P : BodyData → Type 0) (xs : List BodyData) → ((x : BodyData) → Among x xs → P x) → AllByRecursion P xs
+pub all_among : (P : BodyData → Type 0) (xs : List BodyData) → ((x : BodyData) → Among x xs → P x) → AllByRecursion P xs
 all_among P [] h = tt
 all_among P (x ∷ xs) h = (h x (inl refl), all_among P xs (λ y k. h y (inr k)))
 
@@ -31,7 +31,7 @@ member_positions [] c = refl
 member_positions (b ∷ bs) c = kept_map_step (contains c) b (members bs c) (filter (contains c) (positions_of bs)) (contains c b.motion.pos) (member_positions bs c)
 
 -- a node has mass
-node_mass : (B : List BodyData) → AllByRecursion (λ b. 1 ≤ b.mass) B → (c : CellData) → is_node (positions_of B) c ≡ true → 0 < mass_of (members B c)
+pub node_mass : (B : List BodyData) → AllByRecursion (λ b. 1 ≤ b.mass) B → (c : CellData) → is_node (positions_of B) c ≡ true → 0 < mass_of (members B c)
 unfolding is_node
 node_mass B heavy c h =
     let w : Witness (contains c) (positions_of B) = any-witness (contains c) (positions_of B) h in
@@ -44,7 +44,7 @@ leaf_some (m ∷ ms) some h =
     let i : InBox m.motion.pos = h m (inl refl) in
     leaf_by m ms (omega (arith, i.below_x)) (omega (arith, i.below_y)) (omega (arith, i.below_z))
 
-member_of : (B : List BodyData) (c : CellData) (b : BodyData) → Among b (members B c) → Among b B
+pub member_of : (B : List BodyData) (c : CellData) (b : BodyData) → Among b (members B c) → Among b B
 member_of B c b h = (among-kept (λ b. contains c b.motion.pos) b B h).0
 
 sums_of_node : (s : SetupData) (B : List BodyData) (c : CellData) → AreBodies B → is_node (positions_of B) c ≡ true → moments_by (raw_of s.soft c (members B c)) ≡ moments s B c

@@ -38,3 +38,6 @@ more_small second mass d e h k i j = let u : mass * (d * e) ≤ 2 ^ 96 = term_sm
 
 pub less_small : (d e f g : ℕ) → d ≤ 2 ^ 32 → e ≤ 2 ^ 32 → f ≤ 2 ^ 64 → g ≤ 2 ^ 64 → d * g + e * f ≤ 2 ^ 98
 less_small d e f g h k i j = let u : d * g ≤ 2 ^ 96 = term_small d g h j in let v : e * f ≤ 2 ^ 96 = term_small e f k i in omega (arith, u, v)
+
+pub corner_small : (mass c : ℕ) → mass ≤ 2 ^ 32 → c < 2 ^ 32 → mass * c ≤ 2 ^ 64
+corner_small mass c h k = square_small mass c h (omega (arith, k))

@@ -2,3 +2,4 @@ pub mod Sums
 pub mod Joined
 pub mod Computed
 pub mod Conditions
+pub mod Shifted

@@ -3,6 +3,7 @@
 
 mod moments;
 mod raw;
+mod shift;
 
 pub use moments::Moments;
 pub use raw::Raw;
