@@ -7,3 +7,6 @@ mod shift;
 
 pub use moments::Moments;
 pub use raw::Raw;
+
+#[cfg(test)]
+mod tests;
