@@ -1,2 +1,5 @@
 pub mod Sums
 pub mod Joined
+pub mod Computed
+pub mod Conditions
+pub mod Shifted
