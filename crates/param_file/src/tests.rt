@@ -2,31 +2,6 @@ use super::*;
 use std::alloc::Global;
 use std::test::Fail;
 
-const FOUR_STEPS: &[u8] = b"% a collisionless run
-InitCondFile            ics.dat
-SnapshotFileBase        snapshot
-OutputListFilename      outputs.txt   % in ticks
-
-RestartFileBase         restart
-KickFile                kicks.txt
-RankTraceFile           ranktrace.txt
-TimeMax                 4000
-LowBin                  4
-TopBin                  10
-ErrTolTheta             180
-ErrTolIntAccuracy       1638
-GravityConstantInternal 1048576
-VelocityShift           20
-SofteningType1          4096
-SofteningType2          8192
-SofteningType3          8192
-SofteningType4          8192
-SofteningType5          8192
-RestartEvery            2
-RankTrace               0
-DeliverySeed            42
-";
-
 const REST: &[u8] = b"
 TimeMax 64
 LowBin 1
@@ -46,10 +21,15 @@ fn settings(alloc: Global, bytes: &[u8]) -> Result<Params, Fail> {
     Ok(read_params(alloc, bytes)?)
 }
 
-// The fault of bytes, with these required rows behind them.
-fn fault_before_rest(alloc: Global, head: &[u8]) -> Result<Option<ParamErr>, Fail> {
+// These bytes, and the required rows behind them.
+fn with_rest(alloc: Global, head: &[u8]) -> Result<Vec<u8>, Fail> {
     let mut bytes = Vec::from_slice(alloc, head)?;
     bytes.extend_from_slice(REST)?;
+    Ok(bytes)
+}
+
+fn fault_before_rest(alloc: Global, head: &[u8]) -> Result<Option<ParamErr>, Fail> {
+    let bytes = with_rest(alloc, head)?;
     Ok(fault_of(alloc, &bytes))
 }
 
@@ -104,9 +84,10 @@ fn bins_of(params: &Params) -> (u8, u8) {
 #[test]
 fn reads_what_is_written(rt: HostRuntime) -> Result<(), Fail> {
     let alloc = rt.alloc();
-    let (written, again) = written_twice(alloc, FOUR_STEPS)?;
+    let bytes = with_rest(alloc, b"InitCondFile a\nSnapshotFileBase b")?;
+    let (written, again) = written_twice(alloc, &bytes)?;
     assert_eq!(rt; again.as_slice(), written.as_slice());
-    let params = settings(alloc, FOUR_STEPS)?;
-    assert_eq!(rt; bins_of(&params), (4, 10));
+    let params = settings(alloc, &bytes)?;
+    assert_eq!(rt; bins_of(&params), (1, 5));
     Ok(())
 }
