@@ -9,3 +9,6 @@ mod motion;
 
 pub use drifts::drift;
 pub use kicks::{KickErr, kick};
+
+#[cfg(test)]
+mod tests;

@@ -63,3 +63,6 @@ slow_more s bin B fs i b f r places next lt e at h so_far fits_it is =
 
 pub all_places : (s : SetupData) (bin : ℕ) (B : List BodyData) (fs : List V3) (i : ℕ) → length B ≤ i → length fs ≡ length B → places_below s bin B fs i ≡ unfit_places s bin B fs
 all_places s bin B fs i h e = ap (λ ps. map (λ p. p.0) (filter (λ p. unfit s bin p.1) ps)) (take_all i (enumerate_from 0 (zip B fs)) (omega (arith, length-numbered B fs e)))
+
+pub whole : (s : SetupData) (bin : ℕ) (B : List BodyData) (fs : List V3) (i : ℕ) (places : List ℕ) → length B ≤ i → length fs ≡ length B → places ≡ places_below s bin B fs i → places ≡ unfit_places s bin B fs
+whole s bin B fs i places h e so_far = so_far ∙ all_places s bin B fs i h e

@@ -6,3 +6,6 @@ mod rule;
 
 pub use part::fast_part;
 pub use rule::fits;
+
+#[cfg(test)]
+mod tests;

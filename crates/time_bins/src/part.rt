@@ -1,6 +1,7 @@
 // The part of some bodies that doesn't fit a bin.
-ghost use Rattle.std.specs.Prelude.{◌≡◌, ◌≤◌, length, IfOk};
-ghost use Rattle.time_bins.specs.Parts.{unfit_places};
+ghost use Rattle.std.specs.Prelude.{◌≡◌, ◌≤◌, ◌<◌, ℕ, length, slice_index, IfOk};
+ghost use Rattle.std.specs.List.Sorted.{IsStrictlyIncreasing};
+ghost use Rattle.time_bins.specs.Parts.{AreOfFast, unfit_places};
 
 use crate::rule::fits;
 use fixed_point::{Memory, V3};
@@ -18,7 +19,10 @@ pub fn fast_part(
     requires bin { bin ≤ 20 }
     requires few { length bodies.now ≤ 1048576 }
     requires equal { length forces.now ≡ length bodies.now }
-    ensures { IfOk result (λ places. places.items ≡ unfit_places setup.now bin bodies.now forces.now) }
+    ensures places { IfOk result (λ places. places.items ≡ unfit_places setup.now bin bodies.now forces.now) }
+    ensures ascending { IfOk result (λ places. IsStrictlyIncreasing places.items) }
+    ensures within { IfOk result (λ places. (k : ℕ) → k < length places.items → slice_index places.items k < length bodies.now) }
+    ensures fast { IfOk result (λ places. AreOfFast setup.now bin bodies.now forces.now places.items) }
 {
     let mut places = Vec::new(alloc);
     for i in 0..bodies.len() {
