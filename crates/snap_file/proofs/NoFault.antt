@@ -17,7 +17,7 @@ use Rattle.particle_set.specs.Rows.{IsSetOf, IsFirstRefusal, HasMass, HasMomentu
 use Rattle.snap_file.specs.declared.head.Head.{Head}
 use Rattle.snap_file.specs.declared.errors.SnapErr.{SnapErr}
 use Rattle.snap_file.specs.declared.errors.SnapErr.TheVariants.{Block as InFrames, RepeatedBlock, MissingBlock, HeadLength, HeadTag, Gas, BlockLength, Bodies as InBodies, Memory}
-use Rattle.snap_file.specs.Snapshots.{ColumnTexts, AreColumns, HasHead, HasColumns, SpellsSnapshot, IsSnapshotFault, IsFirstRepeat, RepeatsBlock, LacksHead, LacksColumn, HasHeadFault, HasCountsFault, HasLengthFault, contents_named, missing_column, head_fault, counts_fault, lengths_fault, repeats, rows_in}
+use Rattle.snap_file.specs.Snapshots.{ColumnTexts, AreColumns, HasHead, HasColumns, SpellsHead, SpellsSnapshot, IsHeadFault, IsSnapshotFault, IsFirstRepeat, RepeatsBlock, LacksHead, LacksColumn, HasHeadFault, HasCountsFault, HasLengthFault, contents_named, missing_column, head_fault, counts_fault, lengths_fault, repeats, rows_in}
 use Rattle.snap_file.specs.Exact.{IsWantOfMemory, IsRefusalByMemory, ReadOneWay}
 use Rattle.snap_file.proofs.OneReading.{IsIn, Rises, rises, some_same, same_blocks, one_head, one_columns, same_rows, one_snapshot}
 
@@ -139,9 +139,21 @@ apart bytes B (InBodies e) h (inr f) =
     (subst (λ rs. IsFirstRefusal rs e) (same_rows bytes f.blocks h.blocks f.head h.head f.columns h.columns f.has h.has) f.refused)
 apart bytes B Memory h f = tt
 
+head_apart : (bytes : List ℕ) (h : Head) (e : SnapErr) → SpellsHead bytes h → IsHeadFault bytes e → IsWantOfMemory e
+head_apart bytes h (InFrames e) p f = (read_one_way bytes).apart p.blocks e p.has.blocks_are.spelled f
+head_apart bytes h (RepeatedBlock name) p f = no_repeat bytes p.blocks h name p.has f
+head_apart bytes h (MissingBlock name) p f = no_head bytes p.blocks h name p.has f
+head_apart bytes h (HeadLength got) p f = no_head_fault bytes p.blocks h (HeadLength got) p.has f
+head_apart bytes h HeadTag p f = no_head_fault bytes p.blocks h HeadTag p.has f
+head_apart bytes h (Gas count) p f = absurd f
+head_apart bytes h (BlockLength name want got) p f = absurd f
+head_apart bytes h (InBodies e) p f = absurd f
+head_apart bytes h Memory p f = tt
+
 pub reads_one_way : (bytes : List ℕ) → ReadOneWay bytes
 reads_one_way bytes = record {
   one_head = λ h k p q. one_head bytes p.blocks q.blocks h k p.has q.has;
   one_value = one_snapshot bytes;
   apart = apart bytes;
+  head_apart = head_apart bytes;
 }

@@ -6,7 +6,7 @@ use Rattle.particle_set.specs.declared.row.SetErr.TheVariants.{TooMany, Repeated
 use Rattle.snap_file.specs.declared.head.Head.{Head}
 use Rattle.snap_file.specs.declared.errors.SnapErr.{SnapErr}
 use Rattle.snap_file.specs.declared.errors.SnapErr.TheVariants.{Block as InFrames, RepeatedBlock, MissingBlock, HeadLength, HeadTag, Gas, BlockLength, Bodies as InBodies, Memory}
-use Rattle.snap_file.specs.Snapshots.{SpellsHead, SpellsSnapshot, IsSnapshotFault}
+use Rattle.snap_file.specs.Snapshots.{SpellsHead, SpellsSnapshot, IsHeadFault, IsSnapshotFault}
 
 -- the error is want of memory
 abbrev pub IsRefusalByMemory : SetErr → Type 0
@@ -28,8 +28,9 @@ IsWantOfMemory (BlockLength name want got) = ⊥
 IsWantOfMemory (InBodies e) = IsRefusalByMemory e
 IsWantOfMemory Memory = Unit {0}
 
--- bytes have at most one head, are a snapshot of at most one set, and a snapshot has no fault
+-- bytes have at most one head and are a snapshot of at most one set, and what has a head or is a snapshot has no fault
 pub record ReadOneWay (bytes : List ℕ) : Type 0 where
   pub one_head : (h k : Head) → SpellsHead bytes h → SpellsHead bytes k → h ≡ k
   pub one_value : (B C : List BodyData) → SpellsSnapshot bytes B → SpellsSnapshot bytes C → B ≡ C
   pub apart : (B : List BodyData) (e : SnapErr) → SpellsSnapshot bytes B → IsSnapshotFault bytes e → IsWantOfMemory e
+  pub head_apart : (h : Head) (e : SnapErr) → SpellsHead bytes h → IsHeadFault bytes e → IsWantOfMemory e

@@ -31,7 +31,8 @@ pub fn written_snapshots_are_read(set: &BodySet, tick: u64, number: u32)
     are_storable(set.bodies());
 }
 
-/// Bytes have at most one head and are a snapshot of at most one set, and a snapshot has no fault.
+/// Bytes have at most one head and are a snapshot of at most one set. What has a head has no fault of the
+/// head, and a snapshot has no fault at all, but for want of memory.
 pub fn reading_is_exact(bytes: &[u8])
     ensures { ReadOneWay bytes.now }
 {}

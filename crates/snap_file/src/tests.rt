@@ -1,8 +1,9 @@
+ghost use Rattle.std.specs.Prelude.{All, IfOk};
 ghost use Rattle.particle_set.specs.Rows.{HasKind};
 
 use super::*;
 use particle_set::{BodySet, Row, SetErr};
-use snapshot_blocks::{Block, BlockErr, BlockKind, list_blocks, push_block};
+use snapshot_blocks::{BlockErr, BlockKind, push_block};
 use std::alloc::Global;
 use std::test::Fail;
 use store_io::{MemStore, Store, Text};
@@ -28,19 +29,44 @@ fn snapshot(alloc: Global) -> Result<Vec<u8>, Fail> {
     Ok(write_snapshot(alloc, &pair(alloc)?, 2, 0)?)
 }
 
+// The bytes from a place up to another, or none where they don't reach so far.
+fn piece(bytes: &[u8], from: usize, to: usize) -> &[u8] {
+    bytes.get(from..to).unwrap_or(&[])
+}
+
+// The snapshot with other bytes from a place on.
+fn changed(alloc: Global, at: usize, bytes: &[u8]) -> Result<Vec<u8>, Fail> {
+    let text = snapshot(alloc)?;
+    let mut out = Vec::from_slice(alloc, piece(&text, 0, at))?;
+    out.extend_from_slice(bytes)?;
+    let end = out.len();
+    out.extend_from_slice(piece(&text, end, 472))?;
+    Ok(out)
+}
+
+fn framed_wrong(at: u64, kind: BlockKind) -> SnapErr {
+    SnapErr::Block(BlockErr { at, kind })
+}
+
 #[test]
 fn two_bodies_have_472_bytes(rt: HostRuntime) -> Result<(), Fail> {
     let text = snapshot(rt.alloc())?;
     assert_eq!(rt; text.len(), 472);
+<<<<<<< HEAD
     let head = [
         8, 0, 0, 0, 0x48, 0x45, 0x41, 0x44, 8, 1, 0, 0, 8, 0, 0, 0, 0, 1, 0, 0, 0x49, 0x34, 0x53,
         0x4e, 0x41, 0x50, 0x30, 0x31,
     ];
     assert_eq!(rt; text.get(..28).ok_or("too short")?, head.as_slice());
     assert_eq!(rt; &text[312..316], [0xe7, 3, 0, 0].as_slice());
+=======
+    let head = b"\x08\0\0\0HEAD\x08\x01\0\0\x08\0\0\0\0\x01\0\0I4SNAP01";
+    assert_eq!(rt; piece(&text, 0, 28), head.as_slice());
+    assert_eq!(rt; piece(&text, 312, 316), b"\xe7\x03\0\0".as_slice());
+>>>>>>> dcda1b57db614e8393d9e6be37bcfb7cf732c87e
     assert_eq!(rt;
-        &text[348..356],
-        [0xda, 0x8a, 0x1e, 0, 0, 0, 0, 0].as_slice()
+        piece(&text, 348, 356),
+        b"\xda\x8a\x1e\0\0\0\0\0".as_slice()
     );
     let set = read_snapshot(rt.alloc(), &text)?;
     assert_eq!(rt; set.len(), 2);
@@ -49,9 +75,33 @@ fn two_bodies_have_472_bytes(rt: HostRuntime) -> Result<(), Fail> {
 }
 
 #[test]
-fn faults_are_named(rt: HostRuntime) -> Result<(), Fail> {
+fn changed_bytes_have_their_first_fault(rt: HostRuntime) -> Result<(), Fail> {
+    let alloc = rt.alloc();
+    let differs = BlockKind::FrameDiffers { first: 8, last: 9 };
+    let short = SnapErr::BlockLength {
+        name: *b"POS ",
+        want: 36,
+        got: 24,
+    };
+    for (at, byte, want) in [
+        (468, 9, framed_wrong(468, differs)),
+        (20, 0, SnapErr::HeadTag),
+        (28, 3, SnapErr::Gas { count: 3 }),
+        (32, 3, short),
+        (465, 0, SnapErr::Bodies(SetErr::ZeroMass { id: 2 })),
+        (428, 1, SnapErr::Bodies(SetErr::Repeated { id: 1 })),
+    ] {
+        let text = changed(alloc, at, &[byte])?;
+        assert!(rt; read_snapshot(alloc, &text).is_err_and(|e| e == want));
+    }
+    Ok(())
+}
+
+#[test]
+fn a_cut_snapshot_has_its_first_fault(rt: HostRuntime) -> Result<(), Fail> {
     let alloc = rt.alloc();
     let text = snapshot(alloc)?;
+<<<<<<< HEAD
     assert_eq!(rt; text.len(), 472);
     let cut = SnapErr::Block(BlockErr {
         at: 456,
@@ -76,6 +126,38 @@ fn faults_are_named(rt: HostRuntime) -> Result<(), Fail> {
     massless[464..468].fill(0);
     let zero = SnapErr::Bodies(SetErr::ZeroMass { id: 2 });
     assert!(rt; read_snapshot(alloc, &massless).is_err_and(|e| e == zero));
+=======
+    for (len, want) in [
+        (0, SnapErr::MissingBlock(*b"HEAD")),
+        (280, SnapErr::MissingBlock(*b"POS ")),
+        (290, framed_wrong(280, BlockKind::Truncated)),
+        (298, framed_wrong(296, BlockKind::Truncated)),
+        (300, framed_wrong(296, BlockKind::Truncated)),
+        (328, SnapErr::MissingBlock(*b"MOM ")),
+        (400, SnapErr::MissingBlock(*b"ID  ")),
+        (440, SnapErr::MissingBlock(*b"MASS")),
+        (470, framed_wrong(456, BlockKind::Truncated)),
+    ] {
+        let cut = piece(&text, 0, len);
+        assert!(rt; read_snapshot(alloc, cut).is_err_and(|e| e == want));
+    }
+    Ok(())
+}
+
+#[test]
+fn the_head_is_read(rt: HostRuntime) -> Result<(), Fail> {
+    let alloc = rt.alloc();
+    let mut text = snapshot(alloc)?;
+    let want = Head {
+        counts: [0, 2, 0, 0, 0, 0],
+        tick: 2,
+        number: 0,
+    };
+    assert_eq!(rt; read_head(alloc, &text)?, want);
+    push_block(&mut text, *b"HEAD", &[])?;
+    let twice = SnapErr::RepeatedBlock(*b"HEAD");
+    assert!(rt; read_head(alloc, &text).is_err_and(|e| e == twice));
+>>>>>>> dcda1b57db614e8393d9e6be37bcfb7cf732c87e
     Ok(())
 }
 
@@ -83,16 +165,40 @@ fn faults_are_named(rt: HostRuntime) -> Result<(), Fail> {
 fn blocks_stand_in_any_order(rt: HostRuntime) -> Result<(), Fail> {
     let alloc = rt.alloc();
     let text = snapshot(alloc)?;
-    assert_eq!(rt; text.len(), 472);
     let mut turned = Vec::new(alloc);
-    turned.extend_from_slice(&text[440..])?;
-    turned.extend_from_slice(&text[400..440])?;
+    turned.extend_from_slice(piece(&text, 440, 472))?;
+    turned.extend_from_slice(piece(&text, 400, 440))?;
     push_block(&mut turned, *b"POT ", &[1; 8])?;
-    turned.extend_from_slice(&text[328..400])?;
-    turned.extend_from_slice(&text[280..328])?;
-    turned.extend_from_slice(&text[..280])?;
+    turned.extend_from_slice(piece(&text, 328, 400))?;
+    turned.extend_from_slice(piece(&text, 280, 328))?;
+    turned.extend_from_slice(piece(&text, 0, 280))?;
     let set = read_snapshot(alloc, &turned)?;
     let written = write_snapshot(alloc, &set, 2, 0)?;
     assert_eq!(rt; written.as_slice(), text.as_slice());
+    Ok(())
+}
+
+fn many_rows(alloc: Global, count: u64) -> Result<Vec<Row>, Fail>
+    ensures { IfOk result (λ rows. All HasKind rows.items) }
+{
+    let mut rows = Vec::new(alloc);
+    for id in 0..count {
+        rows.push(row(id, 0, 0))?;
+    }
+    Ok(rows)
+}
+
+// The three appends are the calls 0 to 2. The next call would fail.
+#[test]
+fn four_thousand_bodies_are_put_by_three_appends(rt: HostRuntime) -> Result<(), Fail> {
+    let alloc = rt.alloc();
+    let name = Text::from_bytes(alloc, b"snapshot_000")?;
+    let set = BodySet::from_list(alloc, many_rows(alloc, 4000)?)?;
+    let mut store = MemStore::new(alloc);
+    store.fail(3, 0)?;
+    store.put(&name, b"")?;
+    put_snapshot(alloc, &set, 2, 0, &mut store, &name)?;
+    assert!(rt; store.get(&name).is_some_and(|bytes| bytes.len() == 192_376));
+    assert!(rt; store.length(&name).is_err());
     Ok(())
 }

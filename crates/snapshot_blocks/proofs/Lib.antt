@@ -1,3 +1,4 @@
+pub mod Existence
 pub mod Framing
 pub mod Pushes
 pub mod ReadBack

@@ -1,5 +1,5 @@
 -- Blocks that stand one behind the other in bytes, and the first fault where they don't.
-use Rattle.std.specs.Prelude.{◌≡◌, ◌<◌, ◌≤◌, ◌==◌, ◌+◌, ◌-◌, ℕ, not, nat_lt, if◌then◌else◌, List, [], ◌∷◌, length, slice_range, Option, Some, None}
+use Rattle.std.specs.Prelude.{◌≡◌, ◌⊎◌, ◌<◌, ◌≤◌, ◌==◌, ◌+◌, ◌-◌, ℕ, not, nat_lt, if◌then◌else◌, List, [], ◌∷◌, length, slice_range, Option, Some, None}
 use Rattle.fixed_point.specs.Bytes.{word32_at}
 use Rattle.snapshot_blocks.specs.declared.block.Block.{Block}
 use Rattle.snapshot_blocks.specs.declared.block.BlockErr.{BlockErr}
@@ -64,6 +64,10 @@ pub record ReadOneWay (bytes : List ℕ) : Type 0 where
   pub one_value : (xs ys : List Block) → Spell bytes xs → Spell bytes ys → xs ≡ ys
   pub one_fault : (e f : BlockErr) → IsFirstFault bytes e → IsFirstFault bytes f → e ≡ f
   pub apart : (xs : List Block) (e : BlockErr) → Spell bytes xs → IsFirstFault bytes e → ⊥
+
+-- the bytes are blocks, or they have a first fault
+abbrev pub HasReading : List ℕ → Type 0
+HasReading bytes = ((blocks : List Block) × Spell bytes blocks) ⊎ ((err : BlockErr) × IsFirstFault bytes err)
 
 -- a block's contents lie within the bytes
 pub record IsWithin (bytes : List ℕ) (block : Block) : Type 0 where

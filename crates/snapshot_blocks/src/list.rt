@@ -1,7 +1,7 @@
 // Reads the frames of blocks, forward once.
 ghost use Rattle.std.specs.Prelude.{◌≡◌, ◌<◌, ◌≤◌, ◌+◌, length, slice_range, All, IfOk, IfErr, Some};
 ghost use Rattle.snapshot_blocks.specs.Written.{ListsWritten};
-ghost use Rattle.snapshot_blocks.specs.Blocks.{fault_at, StandsAt, Spell, IsFirstFault, IsWithin, IfFramed, ReadOneWay};
+ghost use Rattle.snapshot_blocks.specs.Blocks.{fault_at, StandsAt, Spell, IsFirstFault, IsWithin, IfFramed, HasReading, ReadOneWay};
 
 use crate::{Block, BlockErr, BlockKind};
 use fixed_point::word32;
@@ -91,6 +91,11 @@ pub fn list_blocks(alloc: Global, bytes: &[u8]) -> Result<Vec<Block>, BlockErr>
 /// Bytes are blocks in at most one way, have at most one first fault, and never both.
 pub fn framing_is_exact(bytes: &[u8])
     ensures { ReadOneWay bytes.now }
+{}
+
+/// All bytes are blocks or have a first fault.
+pub fn bytes_have_a_reading(bytes: &[u8])
+    ensures { HasReading bytes.now }
 {}
 
 /// Listing bytes that were written as blocks gives these blocks, with the places of their contents.
