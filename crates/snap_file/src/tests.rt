@@ -52,18 +52,9 @@ fn framed_wrong(at: u64, kind: BlockKind) -> SnapErr {
 fn two_bodies_have_472_bytes(rt: HostRuntime) -> Result<(), Fail> {
     let text = snapshot(rt.alloc())?;
     assert_eq!(rt; text.len(), 472);
-<<<<<<< HEAD
-    let head = [
-        8, 0, 0, 0, 0x48, 0x45, 0x41, 0x44, 8, 1, 0, 0, 8, 0, 0, 0, 0, 1, 0, 0, 0x49, 0x34, 0x53,
-        0x4e, 0x41, 0x50, 0x30, 0x31,
-    ];
-    assert_eq!(rt; text.get(..28).ok_or("too short")?, head.as_slice());
-    assert_eq!(rt; &text[312..316], [0xe7, 3, 0, 0].as_slice());
-=======
     let head = b"\x08\0\0\0HEAD\x08\x01\0\0\x08\0\0\0\0\x01\0\0I4SNAP01";
     assert_eq!(rt; piece(&text, 0, 28), head.as_slice());
     assert_eq!(rt; piece(&text, 312, 316), b"\xe7\x03\0\0".as_slice());
->>>>>>> dcda1b57db614e8393d9e6be37bcfb7cf732c87e
     assert_eq!(rt;
         piece(&text, 348, 356),
         b"\xda\x8a\x1e\0\0\0\0\0".as_slice()
@@ -101,32 +92,6 @@ fn changed_bytes_have_their_first_fault(rt: HostRuntime) -> Result<(), Fail> {
 fn a_cut_snapshot_has_its_first_fault(rt: HostRuntime) -> Result<(), Fail> {
     let alloc = rt.alloc();
     let text = snapshot(alloc)?;
-<<<<<<< HEAD
-    assert_eq!(rt; text.len(), 472);
-    let cut = SnapErr::Block(BlockErr {
-        at: 456,
-        kind: BlockKind::Truncated,
-    });
-    let short = text.get(..470).ok_or("too short")?;
-    assert!(rt; read_snapshot(alloc, short).is_err_and(|e| e == cut));
-    let mut frame = snapshot(alloc)?;
-    assert_eq!(rt; frame.len(), 472);
-    frame[468] = 9;
-    let differs = SnapErr::Block(BlockErr {
-        at: 468,
-        kind: BlockKind::FrameDiffers { first: 8, last: 9 },
-    });
-    assert!(rt; read_snapshot(alloc, &frame).is_err_and(|e| e == differs));
-    let mut tag = snapshot(alloc)?;
-    assert_eq!(rt; tag.len(), 472);
-    tag[20..28].fill(0);
-    assert!(rt; read_snapshot(alloc, &tag).is_err_and(|e| e == SnapErr::HeadTag));
-    let mut massless = snapshot(alloc)?;
-    assert_eq!(rt; massless.len(), 472);
-    massless[464..468].fill(0);
-    let zero = SnapErr::Bodies(SetErr::ZeroMass { id: 2 });
-    assert!(rt; read_snapshot(alloc, &massless).is_err_and(|e| e == zero));
-=======
     for (len, want) in [
         (0, SnapErr::MissingBlock(*b"HEAD")),
         (280, SnapErr::MissingBlock(*b"POS ")),
@@ -157,7 +122,6 @@ fn the_head_is_read(rt: HostRuntime) -> Result<(), Fail> {
     push_block(&mut text, *b"HEAD", &[])?;
     let twice = SnapErr::RepeatedBlock(*b"HEAD");
     assert!(rt; read_head(alloc, &text).is_err_and(|e| e == twice));
->>>>>>> dcda1b57db614e8393d9e6be37bcfb7cf732c87e
     Ok(())
 }
 
