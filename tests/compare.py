@@ -238,7 +238,7 @@ def snapshots(rng):
     for _ in range(rng.choice([0, 1, 1, 1, 2])):
         try:
             data = bad_snapshot(rng, data)
-        except (struct.error, KeyError, IndexError):
+        except (struct.error, KeyError, IndexError, ValueError):
             data = flip(rng, data)
     params = ("\n".join(parameter_lines(rng)) + "\n").encode()
     words = rng.choice([["run", "param.txt", "1"], ["check", "param.txt"], ["show", "ics.dat"]])
