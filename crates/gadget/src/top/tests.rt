@@ -38,7 +38,7 @@ fn joined(alloc: Global, first: &[u8], second: &[u8]) -> Result<Vec<u8>, Memory>
 }
 
 fn push_block(out: &mut Vec<u8>, name: &[u8], contents: &[u8]) -> Result<(), Memory> {
-    let len = contents.len() as u32 % 65536;
+    let len = (contents.len() % 65_536) as u32;
     out.extend_from_slice(&8u32.to_le_bytes())?;
     out.extend_from_slice(name)?;
     out.extend_from_slice(&(len + 8).to_le_bytes())?;
