@@ -188,6 +188,23 @@ fn runs_end_as_they_should(rt: HostRuntime) -> Result<(), Fail> {
 }
 
 #[test]
+fn no_bodies_leave_an_empty_snapshot(rt: HostRuntime) -> Result<(), Fail> {
+    let alloc = rt.alloc();
+    let mut store = store_of(alloc, STEP, &[])?;
+    let mut sink = MemSink::new(alloc);
+    assert_eq!(rt;
+        run_words(alloc, &["run", "param.txt", "1"], &mut store, &mut sink)?,
+        0
+    );
+    assert!(rt;
+        store
+            .get(&text(alloc, b"snapshot_000")?)
+            .is_some_and(|bytes| bytes.len() == 376)
+    );
+    Ok(())
+}
+
+#[test]
 fn parameters_are_answered(rt: HostRuntime) -> Result<(), Fail> {
     let alloc = rt.alloc();
     let traced = "VelocityShift 20\nErrTolIntAccuracy 65536\nTimeMax 2\nRankTrace 1";
