@@ -1,9 +1,8 @@
 -- The forces of all bodies add up to zero.
-use Rattle.std.proofs.Common.{◌≡◌, ℕ, ◌<◌, ◌≤◌, Bool, true, false, cond, List, [], ◌∷◌, map, refl, ap, sym, subst, ◌∙◌, arith, ◌⊎◌, inl, inr, ℤ, pos, ◌+ℤ◌, neg_ℤ}
+use Rattle.std.proofs.Common.{◌≡◌, ◌<◌, ◌≤◌, Bool, true, false, cond, List, [], ◌∷◌, map, refl, ap, sym, subst, ◌∙◌, arith, ◌⊎◌, inl, inr, ℤ, pos, ◌+ℤ◌, neg_ℤ}
 use Rattle.std.specs.List.{filter, AllByRecursion}
 use Rattle.std.proofs.lemmas.Int.{ints}
-use Rattle.std.proofs.lemmas.List.Sums.{sum_by-cons}
-use Rattle.std.proofs.lemmas.Bool.{cond-true, cond-false, false≢true, or_cases}
+use Rattle.std.proofs.lemmas.Bool.{false≢true, or_cases}
 use Rattle.fixed_point.specs.declared.V3.{V3}
 use Rattle.fixed_point.specs.Vectors.{origin, negative, sum_of}
 use Rattle.cell_space.specs.Cells.{Position, CellData, contains, same_cell, same_place, before}
@@ -16,7 +15,7 @@ use Rattle.nbody_model.specs.Covers.{Opening, orient, same_pair, cover, interact
 use Rattle.nbody_model.specs.Force.{pair_force, force_on, node_total, share, share_of, force_at, forces, cells_around}
 use Rattle.model_laws.specs.Laws.{IsSound, AreBodies}
 use Rattle.model_laws.proofs.Among.{Among, Witness, each-among, among-le, among-filter}
-use Rattle.model_laws.proofs.Signed.{total_by, totals_by, total-mapped, total-same, total-on, total-zero, total-plus, total-exchange, sum_of-totals}
+use Rattle.model_laws.proofs.Signed.{total_by, totals_by, total-mapped, total-same, total-on, total-zero, total-plus, total-exchange, total-once, sum_of-totals}
 use Rattle.model_laws.proofs.Counts.{times, among-distinct}
 use Rattle.model_laws.proofs.Turned.{same_pair-exact}
 use Rattle.model_laws.proofs.ChainFacts.{IsOnChain}
@@ -25,24 +24,6 @@ use Rattle.model_laws.proofs.Walk.{cover-on, box_of}
 use Rattle.model_laws.proofs.Levels.{ancestors, nodes, node_once, node_member, shares_are_totals, total_around}
 use Rattle.model_laws.proofs.Shares.{shares, ascending-from, ascending-filter}
 use Rattle.model_laws.proofs.Fair.{opening_sound}
-
--- a sum that is f at one cell alone
-pick_step : (a c : CellData) (cs : List CellData) (f t : ℤ) (b : Bool) → same_cell c a ≡ b → (times same_cell same_cell-exact a cs ≡ 0 → t ≡ pos 0) → (times same_cell same_cell-exact a cs ≡ 1 → t ≡ f) →
-    times same_cell same_cell-exact a (c ∷ cs) ≡ 1 → cond b f (pos 0) +ℤ t ≡ f
-pick_step a c cs f t true e none one h = let u : t ≡ pos 0 = none (omega (arith, h, sum_by-cons (λ x. cond (same_cell x a) 1 0) c cs, cond-true {A = ℕ} (same_cell c a) 1 0 e)) in omega (arith, ints, u)
-pick_step a c cs f t false e none one h = let u : t ≡ f = one (omega (arith, h, sum_by-cons (λ x. cond (same_cell x a) 1 0) c cs, cond-false {A = ℕ} (same_cell c a) 1 0 e)) in omega (arith, ints, u)
-
-none_step : (a c : CellData) (cs : List CellData) (f t : ℤ) (b : Bool) → same_cell c a ≡ b → (times same_cell same_cell-exact a cs ≡ 0 → t ≡ pos 0) → times same_cell same_cell-exact a (c ∷ cs) ≡ 0 → cond b f (pos 0) +ℤ t ≡ pos 0
-none_step a c cs f t true e none h = absurd (omega (arith, h, sum_by-cons (λ x. cond (same_cell x a) 1 0) c cs, cond-true {A = ℕ} (same_cell c a) 1 0 e))
-none_step a c cs f t false e none h = let u : t ≡ pos 0 = none (omega (arith, h, sum_by-cons (λ x. cond (same_cell x a) 1 0) c cs, cond-false {A = ℕ} (same_cell c a) 1 0 e)) in omega (arith, ints, u)
-
-total-none : (a : CellData) (f : ℤ) (cs : List CellData) → times same_cell same_cell-exact a cs ≡ 0 → total_by (λ c. cond (same_cell c a) f (pos 0)) cs ≡ pos 0
-total-none a f [] h = refl
-total-none a f (c ∷ cs) h = none_step a c cs f (total_by (λ x. cond (same_cell x a) f (pos 0)) cs) (same_cell c a) refl (λ k. total-none a f cs k) h
-
-total-pick : (a : CellData) (f : ℤ) (cs : List CellData) → times same_cell same_cell-exact a cs ≡ 1 → total_by (λ c. cond (same_cell c a) f (pos 0)) cs ≡ f
-total-pick a f [] h = absurd (omega (arith, h))
-total-pick a f (c ∷ cs) h = pick_step a c cs f (total_by (λ x. cond (same_cell x a) f (pos 0)) cs) (same_cell c a) refl (λ k. total-none a f cs k) (λ k. total-pick a f cs k) h
 
 -- an interaction: two different cells, each a node once
 record IsLink (ps : List Position) (x : CellData × CellData) : Type 0 where
@@ -105,7 +86,7 @@ link_zero : (ps : List Position) (f : CellData × CellData → ℤ) (x : CellDat
 link_zero ps f x l =
     total-same (λ c. acts f c x) (λ c. cond (same_cell c x.0) (f x) (pos 0) +ℤ cond (same_cell c x.1) (neg_ℤ (f x)) (pos 0)) (λ c. split_force c x.0 x.1 (f x) (neg_ℤ (f x)) l.differ) (nodes ps)
     ∙ total-plus (λ c. cond (same_cell c x.0) (f x) (pos 0)) (λ c. cond (same_cell c x.1) (neg_ℤ (f x)) (pos 0)) (nodes ps)
-    ∙ omega (arith, ints, total-pick x.0 (f x) (nodes ps) l.first, total-pick x.1 (neg_ℤ (f x)) (nodes ps) l.second)
+    ∙ omega (arith, ints, total-once (λ c. same_cell c x.0) (f x) (nodes ps) l.first, total-once (λ c. same_cell c x.1) (neg_ℤ (f x)) (nodes ps) l.second)
 
 -- the totals of all nodes add up to zero
 pub totals_cancel : (o : Opening) → IsSound o → (f : CellData × CellData → ℤ) → total_by (λ c. total_by (λ x. acts f c x) (interactions o)) (nodes o.positions) ≡ pos 0

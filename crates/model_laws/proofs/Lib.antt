@@ -37,3 +37,4 @@ pub mod Rests
 pub mod Nests
 pub mod Resumed
 pub mod Led
+pub mod Firsts

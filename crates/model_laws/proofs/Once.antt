@@ -57,7 +57,7 @@ pub record Bodies (o : Opening) (x : CellData × CellData) : Type 0 where
   pub differ : same_place p q ≡ false
   pub holds : Holds p q x
 
-no_case : (b : Bool) → (b ≡ true → ⊥) → b ≡ false
+pub no_case : (b : Bool) → (b ≡ true → ⊥) → b ≡ false
 no_case true h = absurd (h refl)
 no_case false h = refl
 

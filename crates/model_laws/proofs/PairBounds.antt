@@ -37,12 +37,12 @@ root_order x r h = from (cases_lt r x)
 pub axis_within : (x y z e r : ℕ) → IsRoot (x * x + y * y + z * z + e) r → (x ≤ r) × (y ≤ r) × (z ≤ r)
 axis_within x y z e r h = (root_order x r (omega (arith, h.above)), root_order y r (omega (arith, h.above)), root_order z r (omega (arith, h.above)))
 
-product_within : (x y : ℤ) (m n : ℕ) → unsigned_abs x ≤ m → unsigned_abs y ≤ n → unsigned_abs (x *ℤ y) ≤ m * n
+pub product_within : (x y : ℤ) (m n : ℕ) → unsigned_abs x ≤ m → unsigned_abs y ≤ n → unsigned_abs (x *ℤ y) ≤ m * n
 product_within x y m n h k = let p : unsigned_abs x * unsigned_abs y ≤ m * n = mul-le (unsigned_abs x) (unsigned_abs y) m n h k in omega (arith, unsigned_abs-mul x y, p)
 
 -- ---- of the masses
 
-mono_axis : (strength r2 r : ℕ) (z : ℤ) → strength ≤ 2 ^ 94 → 2 ^ 16 ≤ r2 → 0 < r → unsigned_abs z ≤ r → unsigned_abs (strength · z ÷ (r2 * r)) ≤ 2 ^ 78
+pub mono_axis : (strength r2 r : ℕ) (z : ℤ) → strength ≤ 2 ^ 94 → 2 ^ 16 ≤ r2 → 0 < r → unsigned_abs z ≤ r → unsigned_abs (strength · z ÷ (r2 * r)) ≤ 2 ^ 78
 mono_axis strength r2 r z h k l u =
     let a : strength * unsigned_abs z ≤ 2 ^ 94 * r = mul-le strength (unsigned_abs z) (2 ^ 94) r h u in
     let b : 2 ^ 94 * r ≤ (r2 * 2 ^ 78) * r = mul-le (2 ^ 94) r (r2 * 2 ^ 78) r (omega arith) (omega arith) in
@@ -55,31 +55,31 @@ mono_within strength r2 r d h k l u = record { on_x = mono_axis strength r2 r d.
 
 -- ---- of the second moments
 
-direction_axis : (r : ℕ) (z : ℤ) → 0 < r → unsigned_abs z ≤ r → unsigned_abs (2 ^ 20 · z ÷ r) ≤ 2 ^ 20
+pub direction_axis : (r : ℕ) (z : ℤ) → 0 < r → unsigned_abs z ≤ r → unsigned_abs (2 ^ 20 · z ÷ r) ≤ 2 ^ 20
 direction_axis r z h u = quot_within (2 ^ 20 · z) r (2 ^ 20) h (omega (arith, times_size (2 ^ 20) z, u))
 
-joint_axis : (z : ℤ) (r2 : ℕ) → 0 < r2 → unsigned_abs z ≤ 2 ^ 62 * r2 → unsigned_abs (z ÷ r2) ≤ 2 ^ 62
+pub joint_axis : (z : ℤ) (r2 : ℕ) → 0 < r2 → unsigned_abs z ≤ 2 ^ 62 * r2 → unsigned_abs (z ÷ r2) ≤ 2 ^ 62
 joint_axis z r2 h u = quot_within z r2 (2 ^ 62) h (omega arith)
 
-row_within : (a b c x y z : ℤ) (m n : ℕ) → unsigned_abs a ≤ m → unsigned_abs b ≤ m → unsigned_abs c ≤ m → unsigned_abs x ≤ n → unsigned_abs y ≤ n → unsigned_abs z ≤ n → unsigned_abs (a *ℤ x +ℤ b *ℤ y +ℤ c *ℤ z) ≤ 3 * (m * n)
+pub row_within : (a b c x y z : ℤ) (m n : ℕ) → unsigned_abs a ≤ m → unsigned_abs b ≤ m → unsigned_abs c ≤ m → unsigned_abs x ≤ n → unsigned_abs y ≤ n → unsigned_abs z ≤ n → unsigned_abs (a *ℤ x +ℤ b *ℤ y +ℤ c *ℤ z) ≤ 3 * (m * n)
 row_within a b c x y z m n ha hb hc hx hy hz =
     let p : unsigned_abs (a *ℤ x) ≤ m * n = product_within a x m n ha hx in
     let q : unsigned_abs (b *ℤ y) ≤ m * n = product_within b y m n hb hy in
     let r : unsigned_abs (c *ℤ z) ≤ m * n = product_within c z m n hc hz in
     omega (arith, ints, p, q, r)
 
-times_within : (s : Symmetric) (v : V3) (m n : ℕ) → IsWithinEach m s → IsAtMost n v → IsAtMost (3 * (m * n)) (times s v)
+pub times_within : (s : Symmetric) (v : V3) (m n : ℕ) → IsWithinEach m s → IsAtMost n v → IsAtMost (3 * (m * n)) (times s v)
 times_within s v m n h k = record {
   on_x = row_within s.xx s.xy s.xz v.x v.y v.z m n h.on_xx h.on_xy h.on_xz k.on_x k.on_y k.on_z;
   on_y = row_within s.xy s.yy s.yz v.x v.y v.z m n h.on_xy h.on_yy h.on_yz k.on_x k.on_y k.on_z;
   on_z = row_within s.xz s.yz s.zz v.x v.y v.z m n h.on_xz h.on_yz h.on_zz k.on_x k.on_y k.on_z;
 }
 
-dot_within : (v w : V3) (m n : ℕ) → IsAtMost m v → IsAtMost n w → unsigned_abs (dot v w) ≤ 3 * (m * n)
+pub dot_within : (v w : V3) (m n : ℕ) → IsAtMost m v → IsAtMost n w → unsigned_abs (dot v w) ≤ 3 * (m * n)
 dot_within v w m n h k = row_within v.x v.y v.z w.x w.y w.z m n h.on_x h.on_y h.on_z k.on_x k.on_y k.on_z
 
 -- 15 a n - 3 t n - 6 b, where each of the three products is at most 45, 3 and 18 times 3 · 2^82
-whole_axis : (a t n b : ℤ) → unsigned_abs a ≤ 9 * 2 ^ 62 → unsigned_abs t ≤ 3 * 2 ^ 62 → unsigned_abs n ≤ 2 ^ 20 → unsigned_abs b ≤ 3 * 2 ^ 82 → unsigned_abs (15 · a *ℤ n -ℤ 3 · t *ℤ n -ℤ 6 · b) ≤ 2 ^ 90
+pub whole_axis : (a t n b : ℤ) → unsigned_abs a ≤ 9 * 2 ^ 62 → unsigned_abs t ≤ 3 * 2 ^ 62 → unsigned_abs n ≤ 2 ^ 20 → unsigned_abs b ≤ 3 * 2 ^ 82 → unsigned_abs (15 · a *ℤ n -ℤ 3 · t *ℤ n -ℤ 6 · b) ≤ 2 ^ 90
 whole_axis a t n b ha ht hn hb =
     let fa : unsigned_abs (15 · a) ≤ 135 * 2 ^ 62 = omega (arith, times_size 15 a, ha) in
     let ft : unsigned_abs (3 · t) ≤ 9 * 2 ^ 62 = omega (arith, times_size 3 t, ht) in
@@ -91,7 +91,7 @@ whole_axis a t n b ha ht hn hb =
     minus_within : (x y z : ℤ) → unsigned_abs x ≤ 135 * 2 ^ 62 * 2 ^ 20 → unsigned_abs y ≤ 9 * 2 ^ 62 * 2 ^ 20 → unsigned_abs z ≤ 18 * 2 ^ 82 → unsigned_abs (x -ℤ y -ℤ z) ≤ 2 ^ 90
     minus_within x y z h k l = omega (arith, ints)
 
-out_axis : (gravity r2 : ℕ) (z : ℤ) → gravity ≤ 2 ^ 32 → 2 ^ 16 ≤ r2 → unsigned_abs z ≤ 2 ^ 90 → unsigned_abs (gravity · z ÷ (r2 * 2 ^ 21)) ≤ 2 ^ 85
+pub out_axis : (gravity r2 : ℕ) (z : ℤ) → gravity ≤ 2 ^ 32 → 2 ^ 16 ≤ r2 → unsigned_abs z ≤ 2 ^ 90 → unsigned_abs (gravity · z ÷ (r2 * 2 ^ 21)) ≤ 2 ^ 85
 out_axis gravity r2 z h k u =
     let a : gravity * unsigned_abs z ≤ 2 ^ 32 * 2 ^ 90 = mul-le gravity (unsigned_abs z) (2 ^ 32) (2 ^ 90) h u in
     quot_within (gravity · z) (r2 * 2 ^ 21) (2 ^ 85) (omega arith) (omega (arith, times_size gravity z))

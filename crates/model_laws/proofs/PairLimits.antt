@@ -69,10 +69,10 @@ wrapped_cases d h (inr l) = let e : unsigned_abs (cond (ltb d (2 ^ 31)) (pos d) 
 wrapped_within : (a b : ℕ) → unsigned_abs (wrapped a b) ≤ 2 ^ 31
 wrapped_within a b = wrapped_cases ((b + 2 ^ 32 - a) % 2 ^ 32) (mod_below (b + 2 ^ 32 - a) (2 ^ 32) (omega arith)) (cases_lt ((b + 2 ^ 32 - a) % 2 ^ 32) (2 ^ 31))
 
-way_within : (p q : Position) → IsAtMost (2 ^ 31) (way p q)
+pub way_within : (p q : Position) → IsAtMost (2 ^ 31) (way p q)
 way_within p q = record { on_x = wrapped_within p.x q.x; on_y = wrapped_within p.y q.y; on_z = wrapped_within p.z q.z }
 
-square_within : (p q : Position) → square (way p q) ≤ 3 * 2 ^ 62
+pub square_within : (p q : Position) → square (way p q) ≤ 3 * 2 ^ 62
 square_within p q =
     let x : unsigned_abs (wrapped p.x q.x) * unsigned_abs (wrapped p.x q.x) ≤ 2 ^ 31 * 2 ^ 31 = mul-le (unsigned_abs (wrapped p.x q.x)) (unsigned_abs (wrapped p.x q.x)) (2 ^ 31) (2 ^ 31) (wrapped_within p.x q.x) (wrapped_within p.x q.x) in
     let y : unsigned_abs (wrapped p.y q.y) * unsigned_abs (wrapped p.y q.y) ≤ 2 ^ 31 * 2 ^ 31 = mul-le (unsigned_abs (wrapped p.y q.y)) (unsigned_abs (wrapped p.y q.y)) (2 ^ 31) (2 ^ 31) (wrapped_within p.y q.y) (wrapped_within p.y q.y) in
@@ -122,7 +122,7 @@ product_low a b n x e h =
     let r : n * n ≡ (a + x) * (a + x) = ap (λ t. t * t) (sym e) in
     omega arith
 
-product_most : (a b n : ℕ) → a + b ≤ n + n → (a < n) ⊎ (n ≤ a) → a * b ≤ n * n
+pub product_most : (a b n : ℕ) → a + b ≤ n + n → (a < n) ⊎ (n ≤ a) → a * b ≤ n * n
 product_most a b n h (inl l) = product_low a b n (n - a) (omega arith) (omega arith)
 product_most a b n h (inr l) = let p : b * a ≤ n * n = product_low b a n (n - b) (omega arith) (omega arith) in let q : a * b ≡ b * a = omega arith in omega arith
 
@@ -139,7 +139,7 @@ leaf_side : (s : SetupData) (B : List BodyData) (c : CellData) → is_leaf (posi
 unfolding moments
 leaf_side s B c e = ap (λ t. cond t 0 (width_of c.level)) e
 
-accept_sides : (s : SetupData) (A B : MomentsData) → s.theta ≤ 256 → accept s A B ≡ true → side A * side A + side B * side B ≤ square (way A.centre B.centre)
+pub accept_sides : (s : SetupData) (A B : MomentsData) → s.theta ≤ 256 → accept s A B ≡ true → side A * side A + side B * side B ≤ square (way A.centre B.centre)
 unfolding accept
 accept_sides s A B h e = accepted_sides (side A) (side B) s.theta (square (way A.centre B.centre)) h (ltb-true ((side A + side B) * (side A + side B) * 65536) (s.theta * s.theta * square (way A.centre B.centre)) e)
 
@@ -158,13 +158,16 @@ final_sides s B a b h e = from (or_cases (is_leaf (positions_of B) a && is_leaf 
 
 -- ---- the force of a final pair
 
-joint_axis : (ma mb : ℕ) (qa qb : ℤ) (a2 b2 q r2 : ℕ) → unsigned_abs qa ≤ ma * a2 → unsigned_abs qb ≤ mb * b2 → a2 + b2 ≤ q → ma * mb ≤ 2 ^ 62 → q ≤ r2 → unsigned_abs (ma · qb +ℤ mb · qa) ≤ 2 ^ 62 * r2
-joint_axis ma mb qa qb a2 b2 q r2 h k l m n =
-    let u : ma * unsigned_abs qb ≤ ma * (mb * b2) = mul-le ma (unsigned_abs qb) ma (mb * b2) (omega arith) k in
-    let v : mb * unsigned_abs qa ≤ mb * (ma * a2) = mul-le mb (unsigned_abs qa) mb (ma * a2) (omega arith) h in
+pub joint_terms : (ma mb na nb a2 b2 q r2 : ℕ) → na ≤ ma * a2 → nb ≤ mb * b2 → a2 + b2 ≤ q → ma * mb ≤ 2 ^ 62 → q ≤ r2 → ma * nb + mb * na ≤ 2 ^ 62 * r2
+joint_terms ma mb na nb a2 b2 q r2 h k l m n =
+    let u : ma * nb ≤ ma * (mb * b2) = mul-le ma nb ma (mb * b2) (omega arith) k in
+    let v : mb * na ≤ mb * (ma * a2) = mul-le mb na mb (ma * a2) (omega arith) h in
     let w : ma * mb * (a2 + b2) ≤ 2 ^ 62 * r2 = mul-le (ma * mb) (a2 + b2) (2 ^ 62) r2 m (omega arith) in
     let x : ma * mb * (a2 + b2) ≡ ma * (mb * b2) + mb * (ma * a2) = omega arith in
-    sum_within (ma · qb) (mb · qa) (ma * (mb * b2)) (mb * (ma * a2)) (2 ^ 62 * r2) (omega (arith, times_size ma qb, u)) (omega (arith, times_size mb qa, v)) (omega (arith, w, x))
+    omega (arith, u, v, w, x)
+
+pub joint_axis : (ma mb : ℕ) (qa qb : ℤ) (t : ℕ) → ma * unsigned_abs qb + mb * unsigned_abs qa ≤ t → unsigned_abs (ma · qb +ℤ mb · qa) ≤ t
+joint_axis ma mb qa qb t h = sum_within (ma · qb) (mb · qa) (ma * unsigned_abs qb) (mb * unsigned_abs qa) t (omega (arith, times_size ma qb)) (omega (arith, times_size mb qa)) h
   where
     sum_within : (y z : ℤ) (f g t : ℕ) → unsigned_abs y ≤ f → unsigned_abs z ≤ g → f + g ≤ t → unsigned_abs (y +ℤ z) ≤ t
     sum_within y z f g t h k l = omega (arith, ints)
@@ -180,7 +183,7 @@ pub record IsModerate (g : Gravity) (A B : MomentsData) : Type 0 where
   pub sides : side A * side A + side B * side B ≤ square (way A.centre B.centre)
   pub little : (strength : ℕ) → strength ≤ 2 ^ 94 → IsAtMost (2 ^ 31) (images strength g.table (way A.centre B.centre))
 
-three_within : (x y z : ℤ) → unsigned_abs x ≤ 2 ^ 78 → unsigned_abs y ≤ 2 ^ 85 → unsigned_abs z ≤ 2 ^ 31 → unsigned_abs (x +ℤ y +ℤ z) ≤ 2 ^ 86
+pub three_within : (x y z : ℤ) → unsigned_abs x ≤ 2 ^ 78 → unsigned_abs y ≤ 2 ^ 85 → unsigned_abs z ≤ 2 ^ 31 → unsigned_abs (x +ℤ y +ℤ z) ≤ 2 ^ 86
 three_within x y z h k l = omega (arith, ints)
 
 pub pair_within : (g : Gravity) (A B : MomentsData) → IsModerate g A B → IsAtMost (2 ^ 86) (pair g A B)
@@ -201,7 +204,7 @@ pair_within g A B m =
     let strong : strength ≤ 2 ^ 94 = (let u : g.setup.gravity * (A.mass * B.mass) ≤ 2 ^ 32 * 2 ^ 62 = mul-le g.setup.gravity (A.mass * B.mass) (2 ^ 32) (2 ^ 62) m.gravity m.light in let v : g.setup.gravity * A.mass * B.mass ≡ g.setup.gravity * (A.mass * B.mass) = omega arith in omega arith) in
     let wide : 2 ^ 16 ≤ r2 = omega arith in
     let joint : (qa qb : ℤ) → unsigned_abs qa ≤ A.mass * (side A * side A) → unsigned_abs qb ≤ B.mass * (side B * side B) → unsigned_abs (A.mass · qb +ℤ B.mass · qa) ≤ 2 ^ 62 * r2 = λ qa qb h k.
-    joint_axis A.mass B.mass qa qb (side A * side A) (side B * side B) (square d) r2 h k m.sides m.light (omega arith) in
+    joint_axis A.mass B.mass qa qb (2 ^ 62 * r2) (joint_terms A.mass B.mass (unsigned_abs qa) (unsigned_abs qb) (side A * side A) (side B * side B) (square d) r2 h k m.sides m.light (omega arith)) in
     let one : IsAtMost (2 ^ 78) (mono strength r2 r d) = mono_within strength r2 r d strong wide some at in
     let two : IsAtMost (2 ^ 85) (quadrupole g.setup.gravity A B r2 r d) = quadrupole_within g.setup.gravity A B r2 r d m.gravity wide some at (record {
       on_xx = joint A.quad.xx B.quad.xx m.quad_first.on_xx m.quad_second.on_xx;
@@ -247,10 +250,10 @@ eps_at s h B kinds c n =
 zero_most : (n : ℕ) → IsAtMost n origin
 zero_most n = record { on_x = omega (arith, ints); on_y = omega (arith, ints); on_z = omega (arith, ints) }
 
-image_axis : (strength : ℕ) (z : ℤ) → strength ≤ 2 ^ 94 → unsigned_abs z ≤ 2 ^ 31 → unsigned_abs (strength · z ÷ 2 ^ 94) ≤ 2 ^ 31
+pub image_axis : (strength : ℕ) (z : ℤ) → strength ≤ 2 ^ 94 → unsigned_abs z ≤ 2 ^ 31 → unsigned_abs (strength · z ÷ 2 ^ 94) ≤ 2 ^ 31
 image_axis strength z h k = let u : strength * unsigned_abs z ≤ 2 ^ 94 * 2 ^ 31 = mul-le strength (unsigned_abs z) (2 ^ 94) (2 ^ 31) h k in quot_within (strength · z) (2 ^ 94) (2 ^ 31) (omega arith) (omega (arith, times_size strength z))
 
-images_little : (table : Option TableData) → CorrectsLittle table → (d : V3) → IsAtMost (2 ^ 31) d → (strength : ℕ) → strength ≤ 2 ^ 94 → IsAtMost (2 ^ 31) (images strength table d)
+pub images_little : (table : Option TableData) → CorrectsLittle table → (d : V3) → IsAtMost (2 ^ 31) d → (strength : ℕ) → strength ≤ 2 ^ 94 → IsAtMost (2 ^ 31) (images strength table d)
 images_little None c d near strength h = zero_most (2 ^ 31)
 images_little (Some t) c d near strength h =
     let m : IsAtMost (2 ^ 31) (correction t d) = c d near in

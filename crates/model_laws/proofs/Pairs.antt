@@ -22,7 +22,7 @@ each-distinct : {X : Type 0} (same : X → X → Bool) (P : X → Type 0) (xs : 
 each-distinct same P [] a = tt
 each-distinct same P (x ∷ xs) a = distinct_step P x (distinct same xs) (list_any (same x) xs) a.0 (each-distinct same P xs a.1)
 
-all_among : {X : Type 0} (P : X → Type 0) (xs : List X) → ((x : X) → Among x xs → P x) → AllByRecursion P xs
+pub all_among : {X : Type 0} (P : X → Type 0) (xs : List X) → ((x : X) → Among x xs → P x) → AllByRecursion P xs
 all_among P [] h = tt
 all_among P (x ∷ xs) h = (h x (inl refl), all_among P xs (λ y k. h y (inr k)))
 

@@ -72,14 +72,17 @@ parted_by_one o s p q in_p in_q differ =
     ∙ one
     ∙ sum_by-one {X = CellData × CellData} (λ x. 1) (cover o p q)
 
-cover_there : (o : Opening) (p q : Position) → Among p o.positions → Among q o.positions → same_place p q ≡ false → list_any (same_pair (orient (cover o p q))) (interactions o) ≡ true
+-- the cover of two bodies, turned, stands once among the interactions
+pub cover_once : (o : Opening) (p q : Position) → Among p o.positions → Among q o.positions → same_place p q ≡ false → times same_pair same_pair-exact (orient (cover o p q)) (interactions o) ≡ 1
 unfolding interactions
-cover_there o p q in_p in_q differ =
+cover_once o p q in_p in_q differ =
     let z : CellData × CellData = orient (cover o p q) in
     let f : Position → Position → List (CellData × CellData) = λ a b. orient (cover o a b) ∷ [] in
-    let there : list_any (same_pair z) (over_two f o.positions) ≡ true = two-among f z o.positions p q in_p in_q differ (or_left (same_pair z z) false ((same_pair-exact z z).1 refl)) in
-    any-times same_pair same_pair-exact z (interactions o)
-    (let e : times same_pair same_pair-exact z (interactions o) ≡ cond (list_any (same_pair z) (over_two f o.positions)) 1 0 = times-distinct same_pair same_pair-exact z (over_two f o.positions) in omega (arith, e, cond-true {A = ℕ} (list_any (same_pair z) (over_two f o.positions)) 1 0 there))
+    times-distinct same_pair same_pair-exact z (over_two f o.positions)
+    ∙ cond-true {A = ℕ} (list_any (same_pair z) (over_two f o.positions)) 1 0 (two-among f z o.positions p q in_p in_q differ (or_left (same_pair z z) false ((same_pair-exact z z).1 refl)))
+
+pub cover_there : (o : Opening) (p q : Position) → Among p o.positions → Among q o.positions → same_place p q ≡ false → list_any (same_pair (orient (cover o p q))) (interactions o) ≡ true
+cover_there o p q in_p in_q differ = any-times same_pair same_pair-exact (orient (cover o p q)) (interactions o) (omega (arith, cover_once o p q in_p in_q differ))
 
 pub among-place : (ps : List Position) (p : Position) → list_any (same_place p) ps ≡ true → Among p ps
 among-place ps p h =
@@ -161,7 +164,7 @@ partnered o s c x h e = partnered_step o c x (acts o s x h) (same_cell c x.0) re
 
 -- ---- the partners are few
 
-ones : {X : Type 0} (xs : List X) → sum_by (λ x. 1) xs ≡ length xs
+pub ones : {X : Type 0} (xs : List X) → sum_by (λ x. 1) xs ≡ length xs
 ones [] = refl
 ones {X} (x ∷ xs) = sum_by-cons {X = X} (λ y. 1) x xs ∙ omega (arith, ones xs)
 
@@ -223,6 +226,20 @@ two_le f x y (z ∷ zs) differ (inl h) (inr k) = omega (arith, sum_by-cons f z z
 two_le f x y (z ∷ zs) differ (inr h) (inl k) = omega (arith, sum_by-cons f z zs, ap f k, among-le f x zs h)
 two_le f x y (z ∷ zs) differ (inr h) (inr k) = omega (arith, sum_by-cons f z zs, two_le f x y zs differ h k)
 
+-- two interactions that part the same bodies are one
+pub one_parts : (o : Opening) → IsSound o → (i j : Position) → Among i o.positions → Among j o.positions → (x y : CellData × CellData) → Among x (interactions o) → Among y (interactions o) → parts_two i j x ≡ true → parts_two i j y ≡ true → x ≡ y
+one_parts o s i j in_i in_j x y in_x in_y u v = same (same_pair x y) refl
+  where
+    same : (b : Bool) → same_pair x y ≡ b → x ≡ y
+    same true e = (same_pair-exact x y).0 e
+    same false e = absurd (omega (
+      arith,
+      two_le (λ z. one_if (parts_two i j z)) x y (interactions o) (λ k. false≢true (sym e ∙ (same_pair-exact x y).1 k)) in_x in_y,
+      at_most_one o s i j in_i in_j (same_place i j) refl,
+      cond-true {A = ℕ} (parts_two i j x) 1 0 u,
+      cond-true {A = ℕ} (parts_two i j y) 1 0 v,
+    ))
+
 -- if the partner in x lay in that in y, two interactions would part a body of c from one of the partner
 not_within : (o : Opening) → IsSound o → (c : CellData) (x y : CellData × CellData) → Among x (interactions o) → Among y (interactions o) → (x ≡ y → ⊥) → has_cell c x ≡ true → has_cell c y ≡ true → IsWithin (partner c x) (partner c y) → ⊥
 not_within o s c x y h k differ u v inside =
@@ -230,13 +247,7 @@ not_within o s c x y h k differ u v inside =
     let b : Partnered o c (partner c y) y = partnered o s c y k v in
     let far : parts_two a.i a.j y ≡ true = b.splits a.i a.j a.mine (inside.within a.j a.other) in
     let near : parts_two a.i a.j x ≡ true = a.splits a.i a.j a.mine a.other in
-    absurd (omega (
-      arith,
-      two_le (λ z. one_if (parts_two a.i a.j z)) x y (interactions o) differ h k,
-      at_most_one o s a.i a.j a.in_i a.in_j (same_place a.i a.j) refl,
-      cond-true {A = ℕ} (parts_two a.i a.j x) 1 0 near,
-      cond-true {A = ℕ} (parts_two a.i a.j y) 1 0 far,
-    ))
+    differ (one_parts o s a.i a.j a.in_i a.in_j x y h k near far)
 
 pub partners_disjoint : (o : Opening) → IsSound o → (c : CellData) (x y : CellData × CellData) → list_any (same_pair x) (interactions o) ≡ true → list_any (same_pair y) (interactions o) ≡ true → same_pair x y ≡ false → has_cell c x ≡ true → has_cell c y ≡ true → AreDisjoint (partner c x) (partner c y)
 partners_disjoint o s c x y h k differ u v =

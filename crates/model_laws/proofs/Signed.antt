@@ -3,6 +3,7 @@ use Rattle.std.proofs.Common.{◌≡◌, ℕ, Bool, true, false, cond, List, [],
 use Rattle.std.specs.List.{filter}
 use Rattle.std.proofs.lemmas.Int.{ints}
 use Rattle.std.proofs.lemmas.List.Sums.{sum_by-cons}
+use Rattle.std.proofs.lemmas.Bool.{cond-true, cond-false}
 use Rattle.fixed_point.specs.declared.V3.{V3}
 use Rattle.fixed_point.specs.Vectors.{origin, plus, sum_of}
 use Rattle.model_laws.proofs.Among.{Among}
@@ -40,6 +41,24 @@ total_filter_step f x ys false t e = omega (arith, ints, e)
 pub total-filter : {X : Type 0} (p : X → Bool) (f : X → ℤ) (xs : List X) → total_by f (filter p xs) ≡ total_by (λ x. cond (p x) (f x) (pos 0)) xs
 total-filter p f [] = refl
 total-filter p f (x ∷ xs) = total_filter_step f x (filter p xs) (p x) (total_by (λ y. cond (p y) (f y) (pos 0)) xs) (total-filter p f xs)
+
+-- a sum of one number over the elements that pass a test, where none does, and where one does
+nowhere_step : {X : Type 0} (t : X → Bool) (v : ℤ) (x : X) (xs : List X) (b : Bool) (total : ℤ) → t x ≡ b → (sum_by (λ x. cond (t x) 1 0) xs ≡ 0 → total ≡ pos 0) → sum_by (λ x. cond (t x) 1 0) (x ∷ xs) ≡ 0 → cond b v (pos 0) +ℤ total ≡ pos 0
+nowhere_step t v x xs true total e rest h = absurd (omega (arith, h, sum_by-cons (λ x. cond (t x) 1 0) x xs, cond-true {A = ℕ} (t x) 1 0 e))
+nowhere_step t v x xs false total e rest h = let u : total ≡ pos 0 = rest (omega (arith, h, sum_by-cons (λ x. cond (t x) 1 0) x xs, cond-false {A = ℕ} (t x) 1 0 e)) in omega (arith, ints, u)
+
+pub total-nowhere : {X : Type 0} (t : X → Bool) (v : ℤ) (xs : List X) → sum_by (λ x. cond (t x) 1 0) xs ≡ 0 → total_by (λ x. cond (t x) v (pos 0)) xs ≡ pos 0
+total-nowhere t v [] h = refl
+total-nowhere t v (x ∷ xs) h = nowhere_step t v x xs (t x) (total_by (λ x. cond (t x) v (pos 0)) xs) refl (λ k. total-nowhere t v xs k) h
+
+once_step : {X : Type 0} (t : X → Bool) (v : ℤ) (x : X) (xs : List X) (b : Bool) (total : ℤ) → t x ≡ b → (sum_by (λ x. cond (t x) 1 0) xs ≡ 0 → total ≡ pos 0) → (sum_by (λ x. cond (t x) 1 0) xs ≡ 1 → total ≡ v) →
+    sum_by (λ x. cond (t x) 1 0) (x ∷ xs) ≡ 1 → cond b v (pos 0) +ℤ total ≡ v
+once_step t v x xs true total e none one h = let u : total ≡ pos 0 = none (omega (arith, h, sum_by-cons (λ x. cond (t x) 1 0) x xs, cond-true {A = ℕ} (t x) 1 0 e)) in omega (arith, ints, u)
+once_step t v x xs false total e none one h = let u : total ≡ v = one (omega (arith, h, sum_by-cons (λ x. cond (t x) 1 0) x xs, cond-false {A = ℕ} (t x) 1 0 e)) in omega (arith, ints, u)
+
+pub total-once : {X : Type 0} (t : X → Bool) (v : ℤ) (xs : List X) → sum_by (λ x. cond (t x) 1 0) xs ≡ 1 → total_by (λ x. cond (t x) v (pos 0)) xs ≡ v
+total-once t v [] h = absurd (omega (arith, h))
+total-once t v (x ∷ xs) h = once_step t v x xs (t x) (total_by (λ x. cond (t x) v (pos 0)) xs) refl (λ k. total-nowhere t v xs k) (λ k. total-once t v xs k) h
 
 pub total-mapped : {X Y : Type 0} (f : Y → ℤ) (h : X → Y) (xs : List X) → total_by f (map h xs) ≡ total_by (λ x. f (h x)) xs
 total-mapped f h [] = refl

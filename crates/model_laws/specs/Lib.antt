@@ -1,5 +1,6 @@
 pub mod InOrder
 pub mod Laws
+pub mod Firsts
 pub mod Still
 pub mod Preserved
 pub mod Conserved

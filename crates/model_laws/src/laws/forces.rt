@@ -1,4 +1,5 @@
 // What holds of forces.
+ghost use Rattle.model_laws.specs.Firsts.{InteractionsByBodies, NodeTotalsByBodies};
 ghost use Rattle.model_laws.specs.Laws.{CentresLieInside, ForcesAreBounded, ForcesCancel, LeavesArePoints, NodeTotalsAreBounded, OpeningIsSound, PairForcesAreBounded, SecondMomentsAreBounded, SharesAddUp, TablesCorrectLittle};
 
 /// The shares that the members of a node get of a total add up to it.
@@ -49,4 +50,16 @@ pub fn pair_forces_are_bounded()
 /// A correction out of a table is at most 2^31 on each axis.
 pub fn tables_correct_little()
     ensures { TablesCorrectLittle }
+{}
+
+/// The total of a cell with a body, as a sum over all bodies.
+#[tactic(auto, using(crate::proofs::Firsts::node_totals_by_bodies))]
+pub fn node_totals_by_bodies()
+    ensures { NodeTotalsByBodies }
+{}
+
+/// The number of interactions, as that of the pairs of bodies that stand for one.
+#[tactic(auto, using(crate::proofs::Firsts::interactions_by_bodies))]
+pub fn interactions_by_bodies()
+    ensures { InteractionsByBodies }
 {}
