@@ -4,11 +4,7 @@ use Rattle.std.proofs.Math.ListN.{set}
 use Rattle.std.proofs.lemmas.List.Sums.{sum-map}
 use Rattle.nbody_model.specs.Bodies.{BodyData, MotionData, IsValid}
 use Rattle.particle_set.specs.Motions.{with_motion, with_motion_at}
-
-pub set-with_motion_at : (bs : List BodyData) (i : ℕ) (m : MotionData) (b : BodyData) → i < length bs → b ≡ get_or bs i b → set bs i (with_motion b m) ≡ with_motion_at bs i m
-set-with_motion_at [] i m b h e = absurd (omega arith)
-set-with_motion_at (x ∷ bs) zero m b h e = ap (λ y. with_motion y m ∷ bs) e
-set-with_motion_at (x ∷ bs) (suc i) m b h e = ap (λ ys. x ∷ ys) (set-with_motion_at bs i m b (omega arith) e)
+use Rattle.particle_set.specs.Lent.{moved_at}
 
 pub ids-with_motion_at : (bs : List BodyData) (i : ℕ) (m : MotionData) → map (λ b. b.id) (with_motion_at bs i m) ≡ map (λ b. b.id) bs
 ids-with_motion_at [] i m = refl
@@ -34,3 +30,13 @@ IsValid-with_motion_at bs i m v = record {
   few = rw (length-with_motion_at bs i m) v.few;
   light = rw (masses-with_motion_at bs i m) v.light;
 }
+
+pub moved_at-body : (bs : List BodyData) (i : ℕ) (m : MotionData) (b : BodyData) → i < length bs → b ≡ get_or bs i b → with_motion b m ≡ moved_at bs i m
+moved_at-body [] i m b h e = absurd (omega arith)
+moved_at-body (x ∷ bs) zero m b h e = ap (λ y. with_motion y m) e
+moved_at-body (x ∷ bs) (suc i) m b h e = moved_at-body bs i m b (omega arith) e
+
+pub set-moved_at : (bs : List BodyData) (i : ℕ) (m : MotionData) → i < length bs → set bs i (moved_at bs i m) ≡ with_motion_at bs i m
+set-moved_at [] i m h = absurd (omega arith)
+set-moved_at (x ∷ bs) zero m h = refl
+set-moved_at (x ∷ bs) (suc i) m h = ap (λ ys. x ∷ ys) (set-moved_at bs i m (omega arith))

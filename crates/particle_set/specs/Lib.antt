@@ -1,2 +1,3 @@
+pub mod Lent
 pub mod Motions
 pub mod Rows

@@ -5,8 +5,11 @@ ghost use Rattle.particle_set.specs.Rows.{HasKind, HasMass, HasMomentum, IsFirst
 ghost use Rattle.fixed_point.specs.Vectors.{IsAtMost};
 ghost use Rattle.nbody_model.specs.Bodies.{IsValid, total, vector};
 ghost use Rattle.particle_set.specs.Motions.{with_motion_at};
+ghost use Rattle.particle_set.specs.Lent.{IsMotionAt, LendsMotion};
+ghost use Rattle.std.specs.Borrow.{sem};
 
 use crate::faults::{first_massless, first_repeated, mass_of};
+use crate::lent::Bodies;
 use crate::{Row, SetErr};
 use fixed_point::{Memory, V3};
 use nbody_model::{Body, Motion};
@@ -20,7 +23,7 @@ const MOST_MASS: u64 = 0x1_0000_0000;
 /// Bodies ascending in id, at most 1,048,576 of them, whose masses add up to at most 2^32.
 #[derive(Drop)]
 pub struct BodySet {
-    bodies: Vec<Body>,
+    held: Bodies,
 }
 
 impl Model for BodySet {
@@ -29,9 +32,9 @@ impl Model for BodySet {
 
     ghost Value = { List BodyData };
 
-    ghost view = { λ s. s.bodies.items };
+    ghost view = { λ s. s.held.list.items };
 
-    ghost invariant = { λ s. IsValid s.bodies.items };
+    ghost invariant = { λ s. IsValid s.held.list.items };
 }
 
 // The body of a row, where its momentum is in range.
@@ -106,7 +109,9 @@ fn from_sorted(alloc: Global, rows: &[Row]) -> Result<BodySet, SetErr>
         return Err(SetErr::MassTotal { sum });
     }
     let bodies = bodies_of(alloc, rows)?;
-    Ok(BodySet { bodies })
+    Ok(BodySet {
+        held: Bodies { list: bodies },
+    })
 }
 
 impl BodySet {
@@ -131,7 +136,7 @@ impl BodySet {
         ensures value { result ≡ length self.now }
         ensures few { result ≤ 1048576 }
     {
-        self.bodies.len()
+        self.held.list.len()
     }
 
     /// The body at a place, counted from 0.
@@ -139,7 +144,7 @@ impl BodySet {
         requires { i < length self.now }
         ensures { slice_get self.now i ≡ Some result.now }
     {
-        &self.bodies[i]
+        &self.held.list[i]
     }
 
     /// The bodies, ascending in id.
@@ -147,7 +152,7 @@ impl BodySet {
         ensures value { result.now ≡ self.now }
         ensures valid { IsValid self.now }
     {
-        &self.bodies
+        &self.held.list
     }
 
     /// The momentum of all bodies together, by axis.
@@ -155,7 +160,7 @@ impl BodySet {
         ensures { vector result ≡ total self.now }
     {
         let mut sum = V3::ZERO;
-        for body in &self.bodies {
+        for body in &self.held.list {
             sum = sum.plus(momentum_of(body));
         }
         [sum.x, sum.y, sum.z]
@@ -165,9 +170,19 @@ impl BodySet {
     pub fn copy(&self, alloc: Global) -> Result<BodySet, Memory>
         ensures { IfOk result (λ copied. copied ≡ self.now) }
     {
+        let list = Vec::from_slice(alloc, &self.held.list)?;
         Ok(BodySet {
-            bodies: Vec::from_slice(alloc, &self.bodies)?,
+            held: Bodies { list },
         })
+    }
+
+    /// The motion of the body at a place, to be written. Nothing else changes.
+    pub fn lend_one(&mut self, i: usize) -> &mut Motion
+        requires { i < length self.old }
+        ensures* writes { sem 𝓛 (LendsMotion self.entry i result) }
+        ensures value { IsMotionAt self.old i result.now }
+    {
+        self.held.motion(i)
     }
 
     /// Gives the body at a place another motion, and changes nothing else.
@@ -175,7 +190,6 @@ impl BodySet {
         requires { i < length self.old }
         ensures { self.new ≡ with_motion_at self.old i motion }
     {
-        let body = &mut self.bodies[i];
-        body.motion = motion;
+        *self.lend_one(i) = motion;
     }
 }

@@ -3,6 +3,7 @@
 
 mod body_set;
 mod faults;
+mod lent;
 mod row;
 
 pub use body_set::BodySet;

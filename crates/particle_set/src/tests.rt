@@ -48,3 +48,18 @@ fn another_motion_changes_one_body(rt: HostRuntime) -> Result<(), Fail> {
     assert_eq!(rt; set.get(1).motion.mom(), [5, -6, 7]);
     Ok(())
 }
+
+#[test]
+fn a_lent_motion_changes_one_body(rt: HostRuntime) -> Result<(), Fail> {
+    let alloc = rt.alloc();
+    let rows = vec![in alloc; moving(7, 2, [5, -6, 7]), row(4, 3)]?;
+    let mut set = BodySet::from_list(alloc, rows)?;
+    assert_eq!(rt; set.len(), 2);
+    set.lend_one(1).set_pos([9, 8, 7]);
+    assert_eq!(rt; set.len(), 2);
+    assert_eq!(rt; set.get(1).motion.pos(), [9, 8, 7]);
+    assert_eq!(rt; set.get(1).motion.mom(), [5, -6, 7]);
+    assert_eq!(rt; set.get(0).motion.pos(), [0, 0, 0]);
+    assert_eq!(rt; set.total_momentum(), [5, -6, 7]);
+    Ok(())
+}
