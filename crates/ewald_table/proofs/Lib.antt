@@ -1,0 +1,10 @@
+pub mod Grids
+pub mod Ranges
+pub mod Sound
+pub mod Places
+pub mod Mixes
+pub mod Quotients
+pub mod Trilinear
+pub mod Joined
+pub mod Edges
+pub mod Symmetries

@@ -1,0 +1,3 @@
+pub mod TableFile
+pub mod Mixed
+pub mod Turns
