@@ -1,0 +1,2 @@
+pub mod ExpansionFile
+pub mod Columns
