@@ -1,0 +1,13 @@
+pub mod Sums
+pub mod Flat
+pub mod Leaders
+pub mod Parting
+pub mod CoverSteps
+pub mod At
+pub mod CoverLevels
+pub mod Acting
+pub mod Parts
+pub mod Adding
+pub mod Members
+pub mod ByLevel
+pub mod Numbered

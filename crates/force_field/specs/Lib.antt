@@ -1,0 +1,6 @@
+pub mod Around
+pub mod Levels
+pub mod Pairs
+pub mod Grouped
+pub mod Shared
+pub mod Lists
