@@ -1,7 +1,7 @@
 #!/usr/bin/env python3
 """Compares `gadget` with another program of the same commands, case by case.
 
-    tests/compare.py [--seed N] [--count N] [--kinds parameters,lists,snapshots,runs] [--jobs N] OTHER..
+    tests/compare.py [--seed N] [--count N] [--kinds forces,tables,parameters,lists,snapshots,runs] [--jobs N] OTHER..
 
 OTHER.. is the command line of the other program; the words of a case are put behind it. Each case is made from
 the seed and its number: some files and some words. Both programs are run on them in folders of their own, and
@@ -254,7 +254,59 @@ def runs(rng):
     return {"param.txt": ("\n".join(params) + "\n").encode(), "ics.dat": snapshot(bodies)}, ["run", "param.txt", "1"]
 
 
-KINDS = {"parameters": parameters, "lists": lists, "snapshots": snapshots, "runs": runs}
+def table(rng):
+    g = rng.choice([0, 1, 1, 2, 3])
+    edge = 2**g
+    most = rng.choice([2**31 - 1, 2**20, 3])
+    data = b"I4EWALD1" + struct.pack("<II", g, rng.choice([0, 7]))
+    for k in range(edge + 1):
+        for j in range(edge + 1):
+            for i in range(edge + 1):
+                data += struct.pack("<3i", *(0 if at in (0, edge) else rng.randint(-most - 1, most) for at in (i, j, k)))
+    return data
+
+
+def near_bodies(rng, least, most):
+    """Bodies in a few clusters, some at one place, some at the edges of the box."""
+    centres = [[rng.choice([0, 1, 2**31, 2**32 - 1, 2**30, rng.randrange(2**32)]) for _ in range(3)] for _ in range(rng.randint(1, 3))]
+    spread = rng.choice([1, 3, 2000, 2**20, 2**29, 2**31])
+    ids = rng.sample(range(1, 60), rng.randint(least, most))
+    heavy = rng.choice([[1], [1024], [2**20], [1, 7, 1024, 2**20, 2**24]])
+    fast = rng.choice([0, 0, 2**30, 2**50])
+    return [dict(id=i, kind=rng.choice([1, 1, 1, 2, 5]), mass=rng.choice(heavy),
+                 pos=[(c + rng.randrange(spread) - spread // 2) % 2**32 for c in rng.choice(centres)],
+                 mom=[rng.randint(-fast, fast) for _ in range(3)]) for i in ids]
+
+
+def forces(rng):
+    bin_ = rng.randint(1, 6)
+    changes = [("TimeMax", 2**bin_ * rng.choice([1, 1, 2])), ("LowBin", bin_), ("TopBin", bin_), ("ErrTolTheta", rng.choice([0, 1, 128, 256, 256, 200])),
+               ("VelocityShift", rng.choice([4, 20, 40])), ("ErrTolIntAccuracy", 65536), ("GravityConstantInternal", rng.choice([1048576, 2**32, 2**32])),
+               ("SofteningType1", rng.choice([256, 4096])), ("SofteningType2", rng.choice([8192, 2**30])), ("SofteningType5", 300)]
+    files = {"ics.dat": snapshot(near_bodies(rng, 2, 12))}
+    if rng.random() < 0.5:
+        changes.append(("EwaldTableFile", "table.dat"))
+        files["table.dat"] = table(rng)
+    files["param.txt"] = ("\n".join(parameter_lines(rng, changes)) + "\n").encode()
+    return files, ["run", "param.txt", "1"]
+
+
+def tables(rng):
+    data = table(rng)
+    if rng.random() < 0.4:
+        data = data[:rng.choice([0, 7, 8, 15, 16, 17, len(data) - 1, rng.randrange(len(data) + 1)])]
+    elif rng.random() < 0.2:
+        data += bytes(rng.randint(1, 12))
+    if rng.random() < 0.6:
+        data = flip(rng, data)
+    params = parameter_lines(rng, [("EwaldTableFile", "table.dat")])
+    files = {"param.txt": ("\n".join(params) + "\n").encode(), "table.dat": data, "ics.dat": snapshot(some_bodies(rng, 3))}
+    if rng.random() < 0.03:
+        del files["table.dat"]
+    return files, rng.choice([["run", "param.txt", "1"], ["check", "param.txt"]])
+
+
+KINDS = {"forces": forces, "tables": tables, "parameters": parameters, "lists": lists, "snapshots": snapshots, "runs": runs}
 
 
 # ---- running

@@ -1,5 +1,5 @@
 -- Pieces of a line, put behind it one after another.
-use Rattle.std.proofs.Common.{◌≡◌, ℕ, List, ◌++◌, refl, append_assoc}
+use Rattle.std.proofs.Common.{◌≡◌, ℕ, List, ◌++◌, append_assoc}
 
 pub join_four : (o a b c d l1 l2 : List ℕ) → l1 ≡ o ++ (a ++ b) → l2 ≡ l1 ++ (c ++ d) → l2 ≡ o ++ (a ++ b ++ c ++ d)
 join_four o a b c d l1 l2 e1 e2 = rw (e2, e1) (simp append_assoc)

@@ -1,29 +1,57 @@
--- A refusal at the last of three stages of reading is one of the whole reading.
-use Rattle.std.proofs.Common.{◌≡◌, ℕ, Bool, false, IsTrue, List, Option, sym, subst, ◌∙◌, ap, inl, inr}
+-- A refusal at a later stage of reading is one of the whole reading.
+use Rattle.std.proofs.Common.{◌≡◌, ℕ, Bool, false, IsTrue, List, Option, sym, subst, ◌∙◌, inl, inr}
 use Rattle.store_io.specs.Causes.{Call}
 use Rattle.store_io.specs.Files.{Files}
+use Rattle.nbody_model.specs.Tables.{TableData}
 use Rattle.param_file.specs.Settings.{ParamsData}
 use Rattle.gadget.specs.declared.status.Status.{Status}
-use Rattle.gadget.specs.Inputs.{Seen, NamesParams, GivesTimes, BodiesRefusal, InputRefusal, asks_unbuilt}
+use Rattle.gadget.specs.Reads.{Seen}
+use Rattle.gadget.specs.Tables.{GivesTable, TableRefusal}
+use Rattle.gadget.specs.Inputs.{NamesParams, GivesTimes, SnapshotRefusal, InputRefusal, asks_unbuilt}
 
-pub bodies_refused : (tells tells1 tells2 : Bool) (files files1 files2 : Files) (f f1 f2 now : ℕ) (last : Option Call) (name snapshot : List ℕ) (p : ParamsData) (times : List ℕ) (status : Status)
-    → tells1 ≡ tells → tells2 ≡ tells1 → files1 ≡ files → files2 ≡ files1 → f1 ≡ f → f2 ≡ f1 → snapshot ≡ p.init_cond_file
-    → (IsTrue tells → NamesParams files name p) → asks_unbuilt p ≡ false
-    → (IsTrue tells1 → GivesTimes files1 p.output_list_filename times)
-    → BodiesRefusal (record { tells = tells2; files = files2; faults = f2; faults_new = now; last = last }) snapshot status
-    → InputRefusal (record { tells = tells; files = files; faults = f; faults_new = now; last = last }) name status
-bodies_refused tells tells1 tells2 files files1 files2 f f1 f2 now last name snapshot p times status t1 t2 d1 d2 n1 n2 named params built listed refused =
-    let tells_is = t2 ∙ t1 in
-    let files_is = d2 ∙ d1 in
-    let faults_is = n2 ∙ n1 in
-    let at_file = subst (λ (n : List ℕ). BodiesRefusal (record { tells = tells2; files = files2; faults = f2; faults_new = now; last = last }) n status) named refused in
-    let seen_is : record { tells = tells2; files = files2; faults = f2; faults_new = now; last = last } ≡ record { tells = tells; files = files; faults = f; faults_new = now; last = last } =
-    λ i. record { tells = tells_is i; files = files_is i; faults = faults_is i; faults_new = now; last = last } in
-    inr (inr (record {
+-- what is seen from a stage on
+abbrev seen : Bool → Files → ℕ → ℕ → Option Call → Seen
+seen tells files faults now last = record { tells = tells; files = files; faults = faults; faults_new = now; last = last }
+
+seen_is : (t1 t : Bool) (d1 d : Files) (n1 n now : ℕ) (last : Option Call) → t1 ≡ t → d1 ≡ d → n1 ≡ n → seen t1 d1 n1 now last ≡ seen t d n now last
+seen_is t1 t d1 d n1 n now last a b c = λ i. record { tells = a i; files = b i; faults = c i; faults_new = now; last = last }
+
+-- what holds of the files at a stage holds of them at the first
+held : (P : Files → Type 0) (t1 t : Bool) (d1 d : Files) → t1 ≡ t → d1 ≡ d → (IsTrue t1 → P d1) → IsTrue t → P d
+held P t1 t d1 d a b h k = subst P b (h (subst (λ (b : Bool). IsTrue b) (sym a) k))
+
+pub table_refused : (t t1 t2 : Bool) (d d1 d2 : Files) (n n1 n2 now : ℕ) (last : Option Call) (name : List ℕ) (p : ParamsData) (times : List ℕ) (status : Status)
+    → t1 ≡ t → t2 ≡ t1 → d1 ≡ d → d2 ≡ d1 → n1 ≡ n → n2 ≡ n1
+    → (IsTrue t → NamesParams d name p) → asks_unbuilt p ≡ false
+    → (IsTrue t1 → GivesTimes d1 p.output_list_filename times)
+    → TableRefusal (seen t2 d2 n2 now last) p.ewald_table_file status
+    → InputRefusal (seen t d n now last) name status
+table_refused t t1 t2 d d1 d2 n n1 n2 now last name p times status a1 a2 b1 b2 c1 c2 named built listed refused =
+    inr (inr (inl (record {
+      params = p;
+      named = named;
+      built = built;
+      times = times;
+      listed = held (λ F. GivesTimes F p.output_list_filename times) t1 t d1 d a1 b1 listed;
+      refused = subst (λ (s : Seen). TableRefusal s p.ewald_table_file status) (seen_is t2 t d2 d n2 n now last (a2 ∙ a1) (b2 ∙ b1) (c2 ∙ c1)) refused;
+    })))
+
+pub bodies_refused : (t t1 t2 t3 : Bool) (d d1 d2 d3 : Files) (n n1 n2 n3 now : ℕ) (last : Option Call) (name snapshot : List ℕ) (p : ParamsData) (times : List ℕ) (table : Option TableData) (status : Status)
+    → t1 ≡ t → t2 ≡ t1 → t3 ≡ t2 → d1 ≡ d → d2 ≡ d1 → d3 ≡ d2 → n1 ≡ n → n2 ≡ n1 → n3 ≡ n2 → snapshot ≡ p.init_cond_file
+    → (IsTrue t → NamesParams d name p) → asks_unbuilt p ≡ false
+    → (IsTrue t1 → GivesTimes d1 p.output_list_filename times)
+    → (IsTrue t2 → GivesTable d2 p.ewald_table_file table)
+    → SnapshotRefusal (seen t3 d3 n3 now last) snapshot status
+    → InputRefusal (seen t d n now last) name status
+bodies_refused t t1 t2 t3 d d1 d2 d3 n n1 n2 n3 now last name snapshot p times table status a1 a2 a3 b1 b2 b3 c1 c2 c3 named params built listed corrected refused =
+    let at_file = subst (λ (m : List ℕ). SnapshotRefusal (seen t3 d3 n3 now last) m status) named refused in
+    inr (inr (inr (record {
       params = p;
       named = params;
       built = built;
       times = times;
-      listed = λ t. subst (λ (F : Files). GivesTimes F p.output_list_filename times) d1 (listed (subst (λ (b : Bool). IsTrue b) (sym t1) t));
-      refused = subst (λ (s : Seen). BodiesRefusal s p.init_cond_file status) seen_is at_file;
-    }))
+      listed = held (λ F. GivesTimes F p.output_list_filename times) t1 t d1 d a1 b1 listed;
+      table = table;
+      corrected = held (λ F. GivesTable F p.ewald_table_file table) t2 t d2 d (a2 ∙ a1) (b2 ∙ b1) corrected;
+      refused = subst (λ (s : Seen). SnapshotRefusal s p.init_cond_file status) (seen_is t3 t d3 d n3 n now last (a3 ∙ a2 ∙ a1) (b3 ∙ b2 ∙ b1) (c3 ∙ c2 ∙ c1)) at_file;
+    })))

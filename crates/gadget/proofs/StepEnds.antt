@@ -6,7 +6,7 @@ use Rattle.store_io.specs.Files.{Files}
 use Rattle.run_session.specs.Ends.{EndHasCause}
 use Rattle.run_session.specs.declared.session.End.{End}
 use Rattle.gadget.specs.declared.status.Status.{Status}
-use Rattle.gadget.specs.Inputs.{Seen}
+use Rattle.gadget.specs.Reads.{Seen}
 use Rattle.gadget.specs.Answers.{StepsEnd, RunEnds}
 
 in_steps : {T : Type 0} (s : Seen) (new : Files) (name : List ℕ) (r : Result T Status) → IfErr r (StepsEnd s) → IfErr r (RunEnds s new name)

@@ -1,16 +1,18 @@
 -- When each answer may be given.
-use Rattle.std.specs.Prelude.{◌≡◌, ◌≢◌, ◌⊎◌, ℕ, Bool, true, false, IsTrue, IfSome, List, Option}
+use Rattle.std.specs.Prelude.{◌≡◌, ◌≢◌, ◌⊎◌, ℕ, Bool, false, IsTrue, IfSome, List, Option}
 use Rattle.store_io.specs.Causes.{Rose}
 use Rattle.store_io.specs.Files.{Files}
 use Rattle.store_io.specs.Sinks.{Follows, FollowsPart}
 use Rattle.nbody_model.specs.Bodies.{BodyData}
+use Rattle.nbody_model.specs.Tables.{TableData}
 use Rattle.param_file.specs.Settings.{ParamsData}
 use Rattle.snap_file.specs.declared.head.Head.{Head}
 use Rattle.run_session.specs.declared.session.Ended.{Ended}
 use Rattle.gadget.specs.declared.status.Status.{Status}
-use Rattle.gadget.specs.declared.status.Status.TheVariants.{Done, Usage, Memory, ReadFault, WriteFault, ConsoleFault, Absent, TooLong, NotBuilt, Param, Outputs, Snapshot, MomRange, StepRange}
+use Rattle.gadget.specs.declared.status.Status.TheVariants.{Done, Usage, Memory, WriteFault, ConsoleFault, NotBuilt, MomRange, StepRange}
 use Rattle.gadget.specs.Commands.{Asked, nothing, unbuilt, run, check, show}
-use Rattle.gadget.specs.Inputs.{Seen, InputRefusal, ShowRefusal, Accepts, NamesSnapshot}
+use Rattle.gadget.specs.Reads.{Seen}
+use Rattle.gadget.specs.Inputs.{InputRefusal, SnapshotRefusal, Accepts, NamesSnapshot}
 use Rattle.gadget.specs.Texts.{check_text, show_text, done_text, status_text}
 
 -- ---- the lines of commands that did their work
@@ -19,8 +21,9 @@ use Rattle.gadget.specs.Texts.{check_text, show_text, done_text, status_text}
 pub record Checks (files : Files) (param line : List ℕ) : Type 0 where
   pub params : ParamsData
   pub times : List ℕ
+  pub table : Option TableData
   pub bodies : List BodyData
-  pub accepted : Accepts files param params times bodies
+  pub accepted : Accepts files param params times table bodies
   pub is : line ≡ check_text bodies
 
 -- the lines of `show`: the file of this name is a snapshot, with this head and these bodies
@@ -70,7 +73,7 @@ CommandEnds nothing s new status = (status ≡ Usage) × Untouched s new
 CommandEnds unbuilt s new status = (status ≡ NotBuilt) × Untouched s new
 CommandEnds (run param ranks) s new status = RanksEnd s new ranks status ⊎ RunEnds s new param status
 CommandEnds (check param) s new status = (InputRefusal s param status ⊎ (status ≡ Memory)) × Untouched s new
-CommandEnds (show name) s new status = (ShowRefusal s name status ⊎ (status ≡ Memory)) × Untouched s new
+CommandEnds (show name) s new status = (SnapshotRefusal s name status ⊎ (status ≡ Memory)) × Untouched s new
 
 -- what `check` and `show` leave: no file changed
 abbrev pub Leaves : Asked → Seen → Files → Type 0

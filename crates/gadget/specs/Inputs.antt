@@ -1,29 +1,21 @@
 -- What is read before anything is written, and why it isn't accepted.
-use Rattle.std.specs.Prelude.{◌≡◌, ◌⊎◌, ◌≤◌, ◌<◌, ℕ, Bool, true, false, not, ◌||◌, ◌==◌, IsTrue, IfSome, List, [], length, Option, Some, None, is_some}
-use Rattle.store_io.specs.Causes.{Call, Rose}
+use Rattle.std.specs.Prelude.{◌≡◌, ◌⊎◌, ℕ, Bool, true, false, not, ◌||◌, ◌==◌, IsTrue, List, [], Option, Some, None, is_some}
 use Rattle.store_io.specs.Files.{Files}
 use Rattle.text_words.specs.Comments.{lines_in}
 use Rattle.nbody_model.specs.Bodies.{BodyData}
+use Rattle.nbody_model.specs.Tables.{TableData}
 use Rattle.param_file.specs.Settings.{ParamsData}
 use Rattle.param_file.specs.Reading.{Spell as SpellParams, IsFirstFault as IsParamFault}
 use Rattle.output_schedule.specs.Times.{Spell as SpellTimes, IsFirstFault as IsListFault}
 use Rattle.snap_file.specs.Snapshots.{SpellsHead, SpellsSnapshot, IsSnapshotFault}
-use Rattle.store_io.specs.declared.errors.ReadErr.{ReadErr}
-use Rattle.store_io.specs.declared.errors.ReadErr.TheVariants.{Absent as NoFile, Failed as NotReadable, TooLong as TooMany, Memory as NoMemory}
 use Rattle.snap_file.specs.declared.head.Head.{Head}
 use Rattle.param_file.specs.declared.errors.ParamErr.{ParamErr}
 use Rattle.output_schedule.specs.declared.errors.OutputErr.{OutputErr}
 use Rattle.snap_file.specs.declared.errors.SnapErr.{SnapErr}
 use Rattle.gadget.specs.declared.status.Status.{Status}
-use Rattle.gadget.specs.declared.status.Status.TheVariants.{Memory, ReadFault, Absent, TooLong, NotBuilt, Param, Outputs, Snapshot}
-
--- what is told of the files before a call that changes none, and of the faults before and after it
-pub record Seen : Type 0 where
-  pub tells : Bool
-  pub files : Files
-  pub faults : ℕ
-  pub faults_new : ℕ
-  pub last : Option Call
+use Rattle.gadget.specs.declared.status.Status.TheVariants.{Memory, NotBuilt, Param, Outputs, Snapshot}
+use Rattle.gadget.specs.Reads.{Seen, WasRead, NotRead}
+use Rattle.gadget.specs.Tables.{GivesTable, TableRefusal}
 
 -- the longest files that are read, in bytes
 abbrev pub longest_parameters : ℕ
@@ -34,25 +26,6 @@ longest_list = 1048576
 
 abbrev pub longest_snapshot : ℕ
 longest_snapshot = 268435456
-
--- a file of this name stands, has these bytes, and isn't longer than the limit
-pub record WasRead (files : Files) (name : List ℕ) (limit : ℕ) (bytes : List ℕ) : Type 0 where
-  pub stands : files name ≡ Some bytes
-  pub short : length bytes ≤ limit
-
--- a file of this name stands, and is longer than the limit
-pub record IsLong (files : Files) (name : List ℕ) (limit len : ℕ) : Type 0 where
-  pub bytes : List ℕ
-  pub stands : files name ≡ Some bytes
-  pub is : len ≡ length bytes
-
--- why a file of this name wasn't read
-abbrev pub NotRead : Seen → List ℕ → ℕ → Status → Type 0
-NotRead s name limit (Absent n) = (n ≡ name) × (IsTrue s.tells → s.files name ≡ None)
-NotRead s name limit (TooLong n len) = (n ≡ name) × (limit < len) × (IsTrue s.tells → IsLong s.files name limit len)
-NotRead s name limit (ReadFault n) = (n ≡ name) × Rose s.faults s.faults_new × IfSome s.last (λ c. c ≡ (name, true))
-NotRead s name limit Memory = Unit {0}
-NotRead s name limit status = ⊥
 
 -- ---- the parameter file
 
@@ -71,8 +44,8 @@ pub record HasParamFault (files : Files) (name : List ℕ) (err : ParamErr) : Ty
 -- these settings ask for what isn't built
 abbrev pub asks_unbuilt : ParamsData → Bool
 asks_unbuilt p =
-    not (p.restart_every == 0) || not (p.err_tol_theta == 0) || not (p.low_bin == p.top_bin) || not (p.rank_trace == 0) ||
-    is_some p.ewald_table_file || is_some p.expansion_table_file || is_some p.bin_file
+    not (p.restart_every == 0) || not (p.low_bin == p.top_bin) || not (p.rank_trace == 0) ||
+    is_some p.expansion_table_file || is_some p.bin_file
 
 -- the file of this name spells settings that ask for what isn't built
 pub record AsksUnbuilt (files : Files) (name : List ℕ) : Type 0 where
@@ -129,17 +102,6 @@ pub record HasSnapshotFault (files : Files) (name : List ℕ) (err : SnapErr) : 
   pub read : WasRead files name longest_snapshot bytes
   pub fault : IsSnapshotFault bytes err
 
--- the file of this name is a snapshot
-pub record NamesSome (files : Files) (name : List ℕ) : Type 0 where
-  pub bodies : List BodyData
-  pub named : NamesBodies files name bodies
-
--- why a snapshot isn't accepted; two bodies at one position aren't built
-abbrev pub BodiesRefusal : Seen → List ℕ → Status → Type 0
-BodiesRefusal s name (Snapshot err) = IsTrue s.tells → HasSnapshotFault s.files name err
-BodiesRefusal s name NotBuilt = IsTrue s.tells → NamesSome s.files name
-BodiesRefusal s name status = NotRead s name longest_snapshot status
-
 -- the file of this name is a snapshot of these bodies with this head
 pub record NamesSnapshot (files : Files) (name : List ℕ) (head : Head) (B : List BodyData) : Type 0 where
   pub bytes : List ℕ
@@ -147,17 +109,18 @@ pub record NamesSnapshot (files : Files) (name : List ℕ) (head : Head) (B : Li
   pub head_is : SpellsHead bytes head
   pub spelled : SpellsSnapshot bytes B
 
--- why a snapshot isn't shown
-abbrev pub ShowRefusal : Seen → List ℕ → Status → Type 0
-ShowRefusal s name (Snapshot err) = IsTrue s.tells → HasSnapshotFault s.files name err
-ShowRefusal s name status = NotRead s name longest_snapshot status
+-- why a snapshot isn't accepted
+abbrev pub SnapshotRefusal : Seen → List ℕ → Status → Type 0
+SnapshotRefusal s name (Snapshot err) = IsTrue s.tells → HasSnapshotFault s.files name err
+SnapshotRefusal s name status = NotRead s name longest_snapshot status
 
 -- ---- all inputs of a run
 
--- the parameter file of this name, and the list and the snapshot that it names, are these
-pub record Accepts (files : Files) (name : List ℕ) (p : ParamsData) (times : List ℕ) (B : List BodyData) : Type 0 where
+-- the parameter file of this name, and the list, the table and the snapshot that it names, are these
+pub record Accepts (files : Files) (name : List ℕ) (p : ParamsData) (times : List ℕ) (table : Option TableData) (B : List BodyData) : Type 0 where
   pub params : NamesParams files name p
   pub listed : GivesTimes files p.output_list_filename times
+  pub corrected : GivesTable files p.ewald_table_file table
   pub bodies : NamesBodies files p.init_cond_file B
 
 -- the list isn't accepted, but the parameter file is
@@ -167,25 +130,29 @@ pub record RefusesList (s : Seen) (name : List ℕ) (status : Status) : Type 0 w
   pub built : asks_unbuilt params ≡ false
   pub refused : ListRefusal s params.output_list_filename status
 
--- the snapshot isn't accepted, but the parameter file and the list are
+-- the table isn't accepted, but the parameter file and the list are
+pub record RefusesTable (s : Seen) (name : List ℕ) (status : Status) : Type 0 where
+  pub params : ParamsData
+  pub named : IsTrue s.tells → NamesParams s.files name params
+  pub built : asks_unbuilt params ≡ false
+  pub times : List ℕ
+  pub listed : IsTrue s.tells → GivesTimes s.files params.output_list_filename times
+  pub refused : TableRefusal s params.ewald_table_file status
+
+-- the snapshot isn't accepted, but the parameter file, the list and the table are
 pub record RefusesBodies (s : Seen) (name : List ℕ) (status : Status) : Type 0 where
   pub params : ParamsData
   pub named : IsTrue s.tells → NamesParams s.files name params
   pub built : asks_unbuilt params ≡ false
   pub times : List ℕ
   pub listed : IsTrue s.tells → GivesTimes s.files params.output_list_filename times
-  pub refused : BodiesRefusal s params.init_cond_file status
+  pub table : Option TableData
+  pub corrected : IsTrue s.tells → GivesTable s.files params.ewald_table_file table
+  pub refused : SnapshotRefusal s params.init_cond_file status
 
--- the first refusal, in the order of reading: parameter file, list, snapshot
+-- the first refusal, in the order of reading: parameter file, list, table, snapshot
 abbrev pub InputRefusal : Seen → List ℕ → Status → Type 0
-InputRefusal s name status = ParamRefusal s name status ⊎ (RefusesList s name status ⊎ RefusesBodies s name status)
-
--- the answer for a file that wasn't read
-abbrev pub status_of : ReadErr → List ℕ → Status
-status_of NoFile name = Absent name
-status_of NotReadable name = ReadFault name
-status_of (TooMany len) name = TooLong name len
-status_of NoMemory name = Memory
+InputRefusal s name status = ParamRefusal s name status ⊎ (RefusesList s name status ⊎ (RefusesTable s name status ⊎ RefusesBodies s name status))
 
 -- ---- the answers of the readers alone
 

@@ -2,4 +2,6 @@ pub mod Answers
 pub mod Asks
 pub mod Commands
 pub mod Inputs
+pub mod Reads
+pub mod Tables
 pub mod Texts

@@ -1,5 +1,5 @@
 -- What is printed: one line or a few, numbers in decimal, each line ended by LF.
-use Rattle.std.specs.Prelude.{ℕ, List, ◌++◌, ◌+◌, length, sum_by, slice_index, codes, decimal}
+use Rattle.std.specs.Prelude.{ℕ, List, ◌++◌, length, sum_by, slice_index, codes, decimal}
 use Rattle.std.specs.Fmt.{signed_decimal}
 use Rattle.fixed_point.specs.declared.V3.{V3}
 use Rattle.nbody_model.specs.Bodies.{BodyData, total, vector}
@@ -9,7 +9,8 @@ use Rattle.param_file.specs.declared.errors.ParamKind.{ParamKind}
 use Rattle.param_file.specs.declared.errors.ParamKind.TheVariants.{Unknown, NoValue, Repeated, NotNumber, OutOfRange, Missing, Clash, Memory as ParamMemory}
 use Rattle.output_schedule.specs.declared.errors.OutputErr.{OutputErr}
 use Rattle.output_schedule.specs.declared.errors.OutputErr.TheVariants.{NotNumber as NoNumber, TooMany as TooManyTimes, Memory as ListMemory}
-use Rattle.snapshot_blocks.specs.declared.block.BlockErr.{BlockErr}
+use Rattle.ewald_table.specs.declared.errors.TableErr.{TableErr}
+use Rattle.ewald_table.specs.declared.errors.TableErr.TheVariants.{Tag, GridRange, Length, PlaneNotZero, Memory as TableMemory}
 use Rattle.snapshot_blocks.specs.declared.block.BlockKind.{BlockKind}
 use Rattle.snapshot_blocks.specs.declared.block.BlockKind.TheVariants.{Truncated, NameFrame, FrameDiffers, SkipDiffers, Memory as BlockMemory}
 use Rattle.particle_set.specs.declared.row.SetErr.{SetErr}
@@ -19,7 +20,7 @@ use Rattle.snap_file.specs.declared.errors.SnapErr.{SnapErr}
 use Rattle.snap_file.specs.declared.errors.SnapErr.TheVariants.{Block, RepeatedBlock, MissingBlock, HeadLength, HeadTag, Gas, BlockLength, Bodies, Memory as SnapMemory}
 use Rattle.run_session.specs.declared.session.Ended.{Ended}
 use Rattle.gadget.specs.declared.status.Status.{Status}
-use Rattle.gadget.specs.declared.status.Status.TheVariants.{Done, Usage, Memory, ReadFault, WriteFault, ConsoleFault, Absent, TooLong, NotBuilt, Param, Outputs, Snapshot, MomRange, StepRange}
+use Rattle.gadget.specs.declared.status.Status.TheVariants.{Done, Usage, Memory, ReadFault, WriteFault, ConsoleFault, Absent, TooLong, NotBuilt, Param, Outputs, Table, Snapshot, MomRange, StepRange}
 
 -- a number after a space
 abbrev pub spaced : ℕ → List ℕ
@@ -56,6 +57,13 @@ abbrev pub list_text : OutputErr → List ℕ
 list_text (NoNumber line) = codes "outputs line" ++ spaced line ++ codes " not a number"
 list_text (TooManyTimes count) = codes "outputs too many" ++ spaced count
 list_text ListMemory = codes ""
+
+abbrev pub table_text : TableErr → List ℕ
+table_text Tag = codes "tag"
+table_text (GridRange g) = codes "grid" ++ spaced g
+table_text (Length want got) = codes "length" ++ spaced want ++ spaced got
+table_text (PlaneNotZero index) = codes "plane" ++ spaced index
+table_text TableMemory = codes ""
 
 abbrev pub block_text : ℕ → BlockKind → List ℕ
 block_text at Truncated = codes "truncated at" ++ spaced at
@@ -100,6 +108,7 @@ status_words (TooLong name len) = codes "too long " ++ name ++ spaced len
 status_words NotBuilt = codes "not built"
 status_words (Param e) = param_text e
 status_words (Outputs e) = list_text e
+status_words (Table e) = codes "table " ++ table_text e
 status_words (Snapshot e) = codes "snapshot " ++ snapshot_fault_text e
 status_words (MomRange tick bin id axis) = counted (codes "momentum range tick") tick ++ counted (codes " bin") bin ++ counted (codes " id") id ++ counted (codes " axis") axis
 status_words (StepRange tick id) = counted (codes "step range tick") tick ++ counted (codes " id") id

@@ -5,10 +5,13 @@ ghost use Rattle.param_file.specs.Reading.{Spell as SpellParams};
 ghost use Rattle.output_schedule.specs.Times.{Spell as SpellTimes};
 ghost use Rattle.snap_file.specs.Snapshots.{SpellsHead, SpellsSnapshot, IsHeadFault};
 ghost use Rattle.store_io.specs.Causes.{HasCause, read_failed};
-ghost use Rattle.gadget.specs.Inputs.{Seen, WasRead, NotRead, NamesParams, ParamRefusal, ParamAnswer, GivesTimes, NamesTimes, ListRefusal, NamedListRefusal, ListAnswer, NamesBodies, BodiesRefusal, NamesSnapshot, ShowRefusal, SnapshotAnswer, Accepts, InputRefusal, RefusesList, RefusesBodies, asks_unbuilt, status_of};
+ghost use Rattle.gadget.specs.Reads.{Seen, WasRead, NotRead, status_of};
+ghost use Rattle.gadget.specs.Inputs.{NamesParams, ParamRefusal, ParamAnswer, GivesTimes, NamesTimes, ListRefusal, NamedListRefusal, ListAnswer, NamesBodies, NamesSnapshot, SnapshotRefusal, SnapshotAnswer, Accepts, InputRefusal, RefusesList, RefusesTable, RefusesBodies, asks_unbuilt};
 
 use crate::status::Status;
-use crate::unbuilt::{asks_unbuilt, two_at_one_position};
+use crate::tables::load_corrections;
+use crate::unbuilt::asks_unbuilt;
+use ewald_table::Table;
 use output_schedule::{OutputErr, read_outputs};
 use param_file::{ParamErr, ParamKind, Params, read_params};
 use particle_set::BodySet;
@@ -40,8 +43,8 @@ fn unread(alloc: Global, name: &Text, err: ReadErr) -> Status
     }
 }
 
-// The bytes of a file, or the answer for it.
-fn read_file<S: Store>(
+/// The bytes of a file, or the answer for it.
+pub fn read_file<S: Store>(
     alloc: Global,
     store: &mut S,
     name: &Text,
@@ -197,7 +200,7 @@ pub fn load_snapshot<S: Store>(
     ensures files { S.file store.new ≡ S.file store.old }
     ensures ok { IfOk result (λ r. IsTrue (S.tells store.old) → NamesSnapshot (S.file store.old) name.now r.0 r.1) }
     ensures quiet { OnOk result ((S.faults store.new ≡ S.faults store.old) × (S.last store.new ≡ S.last store.old)) }
-    ensures err { IfErr result (ShowRefusal (record {
+    ensures err { IfErr result (SnapshotRefusal (record {
       tells = S.tells store.old;
       files = S.file store.old;
       faults = S.faults store.old;
@@ -219,13 +222,13 @@ pub fn load_snapshot<S: Store>(
     }
 }
 
-// Reads a snapshot whose bodies are at different positions.
+// Reads the bodies of a snapshot.
 fn load_bodies<S: Store>(alloc: Global, store: &mut S, name: &Text) -> Result<BodySet, Status>
     ensures tells { S.tells store.new ≡ S.tells store.old }
     ensures files { S.file store.new ≡ S.file store.old }
     ensures ok { IfOk result (λ B. IsTrue (S.tells store.old) → NamesBodies (S.file store.old) name.now B) }
     ensures quiet { OnOk result ((S.faults store.new ≡ S.faults store.old) × (S.last store.new ≡ S.last store.old)) }
-    ensures err { IfErr result (BodiesRefusal (record {
+    ensures err { IfErr result (SnapshotRefusal (record {
       tells = S.tells store.old;
       files = S.file store.old;
       faults = S.faults store.old;
@@ -237,31 +240,24 @@ fn load_bodies<S: Store>(alloc: Global, store: &mut S, name: &Text) -> Result<Bo
         Ok(bytes) => bytes,
         Err(status) => return Err(status),
     };
-    let set = match bodies_of(alloc, &bytes) {
-        Ok(set) => set,
-        Err(status) => return Err(status),
-    };
-    match two_at_one_position(alloc, set.bodies()) {
-        Ok(false) => Ok(set),
-        Ok(true) => Err(Status::NotBuilt),
-        Err(_) => Err(Status::Memory),
-    }
+    bodies_of(alloc, &bytes)
 }
 
-/// What a run is given: its settings, the listed times and the bodies.
+/// What a run is given: its settings, the listed times, the table of corrections and the bodies.
 #[derive(Drop)]
 pub struct Inputs {
     pub params: Params,
     pub outputs: Vec<u64>,
+    pub table: Option<Table>,
     pub set: BodySet,
 }
 
-/// Reads a parameter file, then the list and the snapshot that it names.
+/// Reads a parameter file, then the list, the table and the snapshot that it names.
 pub fn load_inputs<S: Store>(alloc: Global, store: &mut S, name: &Text) -> Result<Inputs, Status>
     ensures tells { S.tells store.new ≡ S.tells store.old }
     ensures files { S.file store.new ≡ S.file store.old }
     ensures ok { IfOk result (λ i. IsTrue (S.tells store.old)
-        → Accepts (S.file store.old) name.now i.params i.outputs.items i.set) }
+        → Accepts (S.file store.old) name.now i.params i.outputs.items i.table i.set) }
     ensures quiet { OnOk result ((S.faults store.new ≡ S.faults store.old) × (S.last store.new ≡ S.last store.old)) }
     ensures err { IfErr result (InputRefusal (record {
       tells = S.tells store.old;
@@ -279,6 +275,10 @@ pub fn load_inputs<S: Store>(alloc: Global, store: &mut S, name: &Text) -> Resul
         Ok(outputs) => outputs,
         Err(status) => return Err(status),
     };
+    let table = match load_corrections(alloc, store, &params) {
+        Ok(table) => table,
+        Err(status) => return Err(status),
+    };
     let set = match load_bodies(alloc, store, &params.init_cond_file) {
         Ok(set) => set,
         Err(status) => return Err(status),
@@ -286,6 +286,7 @@ pub fn load_inputs<S: Store>(alloc: Global, store: &mut S, name: &Text) -> Resul
     Ok(Inputs {
         params,
         outputs,
+        table,
         set,
     })
 }

@@ -1,6 +1,7 @@
 // The commands that read and write nothing: what a parameter file names, and what a snapshot holds.
 ghost use Rattle.std.specs.Prelude.{◌≡◌, ◌⊎◌, IsTrue, IfOk, IfErr};
-ghost use Rattle.gadget.specs.Inputs.{Seen, InputRefusal, ShowRefusal};
+ghost use Rattle.gadget.specs.Reads.{Seen};
+ghost use Rattle.gadget.specs.Inputs.{InputRefusal, SnapshotRefusal};
 ghost use Rattle.gadget.specs.Answers.{Checks, Shows};
 
 use crate::inputs::{load_inputs, load_snapshot};
@@ -35,7 +36,7 @@ pub fn check<S: Store>(alloc: Global, store: &mut S, param: &Text) -> Result<Vec
 pub fn show<S: Store>(alloc: Global, store: &mut S, name: &Text) -> Result<Vec<u8>, Status>
     ensures files { S.file store.new ≡ S.file store.old }
     ensures ok { IfOk result (λ lines. IsTrue (S.tells store.old) → Shows (S.file store.old) name.now lines.items) }
-    ensures err { IfErr result (λ status. ShowRefusal (record {
+    ensures err { IfErr result (λ status. SnapshotRefusal (record {
       tells = S.tells store.old;
       files = S.file store.old;
       faults = S.faults store.old;

@@ -8,6 +8,7 @@ mod look;
 mod look_texts;
 mod snap_texts;
 mod status;
+mod tables;
 mod texts;
 mod top;
 mod unbuilt;

@@ -1,4 +1,5 @@
 // How a command ended.
+use ewald_table::TableErr;
 use output_schedule::OutputErr;
 use param_file::ParamErr;
 use snap_file::SnapErr;
@@ -27,6 +28,7 @@ pub enum Status {
     NotBuilt,
     Param(ParamErr),
     Outputs(OutputErr),
+    Table(TableErr),
     Snapshot(SnapErr),
     MomRange {
         tick: u64,
@@ -54,6 +56,7 @@ impl Status {
             Status::NotBuilt => 9,
             Status::Param(_) => 10,
             Status::Outputs(_) => 11,
+            Status::Table(_) => 12,
             Status::Snapshot(_) => 13,
             Status::MomRange { .. } => 20,
             Status::StepRange { .. } => 21,

@@ -2,10 +2,11 @@
 ghost use Rattle.std.specs.Prelude.{◌≡◌, ◌++◌, IfOk, OnOk, codes};
 ghost use Rattle.std.specs.Fmt.{signed_decimal};
 ghost use Rattle.nbody_model.specs.Bodies.{vector};
-ghost use Rattle.gadget.specs.Texts.{spaced, counted, vector_text, kind_text, param_text, list_text, status_words, status_text, done_text, IsNotMissing};
+ghost use Rattle.gadget.specs.Texts.{spaced, counted, vector_text, kind_text, param_text, list_text, table_text, status_words, status_text, done_text, IsNotMissing};
 
 use crate::snap_texts::{push_snap_err, push_spaced};
 use crate::status::Status;
+use ewald_table::TableErr;
 use fixed_point::Memory;
 use output_schedule::OutputErr;
 use param_file::{ParamErr, ParamKind};
@@ -113,6 +114,28 @@ fn push_output_err(line: &mut Vec<u8>, err: &OutputErr) -> Result<(), Memory>
     }
 }
 
+fn push_table_err(line: &mut Vec<u8>, err: &TableErr) -> Result<(), Memory>
+    ensures { OnOk result (line.new.items ≡ line.old.items ++ table_text err.now) }
+{
+    match err {
+        TableErr::Tag => Ok(line.extend_from_slice(b"tag")?),
+        TableErr::GridRange { g } => push_counted(line, b"grid", u128::from(*g)),
+        TableErr::Length { want, got } => {
+            push_counted(line, b"length", u128::from(*want))?;
+            push_spaced(line, *got)
+        }
+        TableErr::PlaneNotZero { index } => push_counted(line, b"plane", u128::from(*index)),
+        TableErr::Memory => Ok(()),
+    }
+}
+
+fn push_table_fault(line: &mut Vec<u8>, err: &TableErr) -> Result<(), Memory>
+    ensures { OnOk result (line.new.items ≡ line.old.items ++ status_words (Status.Table err.now)) }
+{
+    line.extend_from_slice(b"table ")?;
+    push_table_err(line, err)
+}
+
 // Some words, and a name.
 fn push_name(line: &mut Vec<u8>, words: &[u8], name: &[u8]) -> Result<(), Memory>
     ensures { OnOk result (line.new.items ≡ line.old.items ++ (words.now ++ name.now)) }
@@ -175,6 +198,7 @@ fn push_status(line: &mut Vec<u8>, status: &Status) -> Result<(), Memory>
         Status::TooLong { name, len } => push_too_long(line, name, *len),
         Status::Param(err) => push_param_err(line, err),
         Status::Outputs(err) => push_output_err(line, err),
+        Status::Table(err) => push_table_fault(line, err),
         Status::Snapshot(err) => push_snapshot_fault(line, err),
         Status::MomRange {
             tick,

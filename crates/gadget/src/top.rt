@@ -2,14 +2,15 @@
 ghost use Rattle.std.specs.Prelude.{◌≡◌, IfOk, IfErr, OnOk};
 ghost use Rattle.run_session.specs.Ends.{EndHasCause};
 ghost use Rattle.gadget.specs.Commands.{asked};
-ghost use Rattle.gadget.specs.Inputs.{Seen};
+ghost use Rattle.gadget.specs.Reads.{Seen};
 ghost use Rattle.gadget.specs.Answers.{CommandEnds, Ends, Leaves, LineOf, PrintEnds, RunEnds, Runs, StepsEnd};
 
 use crate::command::{Command, command_of};
-use crate::inputs::load_inputs;
+use crate::inputs::{Inputs, load_inputs};
 use crate::look::{check, show};
 use crate::status::Status;
 use crate::texts::{done_line, status_line};
+use force_field::ListField;
 use run_session::{End, Ended};
 use std::alloc::Global;
 use store_io::{IoErr, Schedule, Sink, Stopper, Store, Text};
@@ -53,11 +54,17 @@ fn run<S: Store>(alloc: Global, store: &mut S, param: &Text) -> Result<Vec<u8>, 
       last = S.last store.new;
     }) (S.file store.new) param.now) }
 {
-    let inputs = match load_inputs(alloc, store, param) {
+    let Inputs {
+        params,
+        outputs,
+        table,
+        set,
+    } = match load_inputs(alloc, store, param) {
         Ok(inputs) => inputs,
         Err(status) => return Err(status),
     };
-    let ended = run_session::run(alloc, inputs.set, &inputs.params, &inputs.outputs, store);
+    let mut forces = ListField::new(alloc, params.setup(), table.as_ref());
+    let ended = run_session::run(alloc, set, &params, &outputs, &mut forces, store);
     line_of(alloc, ended)
 }
 

@@ -1,4 +1,3 @@
 pub mod Kept
 pub mod Products
 pub mod StandingFiles
-pub mod Totals

@@ -8,7 +8,7 @@ ghost use Rattle.store_io.specs.Causes.{Call};
 use crate::files::{Failure, append_to, close_file, create_file, write_snapshot_file};
 use crate::names::{kick_lines, numbered};
 use crate::step::{StepEnd, base_step};
-use nbody_model::Record;
+use nbody_model::{Forces, Record};
 use output_schedule::due;
 use param_file::Params;
 use particle_set::BodySet;
@@ -122,10 +122,11 @@ fn synchronise<S: Store>(
 }
 
 // Makes a base step, and puts the lines of its kicks into the kick file; or says why it was refused.
-fn step_with_lines<S: Store>(
+fn step_with_lines<F: Forces, S: Store>(
     alloc: Global,
     run: &mut Progress,
     params: &Params,
+    forces: &mut F,
     store: &mut S,
 ) -> Result<Option<StepEnd>, Failure>
     requires stands { IsTrue (S.tells store.old) → IsSome (S.file store.old params.now.kick_file) }
@@ -137,7 +138,8 @@ fn step_with_lines<S: Store>(
     ensures cause { IfErr result (HasFailed (S.faults store.old) (S.faults store.new) (S.last store.new)) }
 {
     let mut kicks = Vec::new(alloc);
-    let refused = match base_step(alloc, &mut run.set, &params.setup(), run.tick, &mut kicks) {
+    let setup = params.setup();
+    let refused = match base_step(alloc, &mut run.set, &setup, run.tick, forces, &mut kicks) {
         Ok(()) => None,
         Err(StepEnd::Memory) => return Err(Failure::Memory),
         Err(end) => Some(end),
@@ -151,11 +153,12 @@ fn step_with_lines<S: Store>(
 }
 
 // One base step with its synchronisation; or why it was refused.
-fn advance<S: Store>(
+fn advance<F: Forces, S: Store>(
     alloc: Global,
     run: &mut Progress,
     params: &Params,
     outputs: &[u64],
+    forces: &mut F,
     store: &mut S,
 ) -> Result<Option<StepEnd>, Failure>
     requires stands { IsTrue (S.tells store.old) → IsSome (S.file store.old params.now.kick_file) }
@@ -166,7 +169,7 @@ fn advance<S: Store>(
     ensures later { S.faults store.old ≤ S.faults store.new }
     ensures cause { IfErr result (HasFailed (S.faults store.old) (S.faults store.new) (S.last store.new)) }
 {
-    if let Some(refusal) = step_with_lines(alloc, run, params, store)? {
+    if let Some(refusal) = step_with_lines(alloc, run, params, forces, store)? {
         return Ok(Some(refusal));
     }
     let from = run.tick + 1;
@@ -177,11 +180,12 @@ fn advance<S: Store>(
 }
 
 // Base steps until the last tick, or until one is refused.
-fn make_steps<S: Store>(
+fn make_steps<F: Forces, S: Store>(
     alloc: Global,
     run: &mut Progress,
     params: &Params,
     outputs: &[u64],
+    forces: &mut F,
     store: &mut S,
 ) -> Result<Option<StepEnd>, Failure>
     requires { IsTrue (S.tells store.old) → IsSome (S.file store.old params.now.kick_file) }
@@ -192,7 +196,7 @@ fn make_steps<S: Store>(
 {
     let time_max = params.time_max;
     'steps: while run.tick < time_max {
-        if let Some(refusal) = advance(alloc, run, params, outputs, store)? {
+        if let Some(refusal) = advance(alloc, run, params, outputs, forces, store)? {
             return Ok(Some(refusal));
         }
     }
@@ -200,11 +204,12 @@ fn make_steps<S: Store>(
 }
 
 // The whole session: the kick file is made first, and finished last where no file failed.
-fn make_session<S: Store>(
+fn make_session<F: Forces, S: Store>(
     alloc: Global,
     run: &mut Progress,
     params: &Params,
     outputs: &[u64],
+    forces: &mut F,
     store: &mut S,
 ) -> Result<Option<StepEnd>, Failure>
     requires { run.old.tick ≡ 0 }
@@ -213,7 +218,7 @@ fn make_session<S: Store>(
 {
     create_file(alloc, store, &params.kick_file)?;
     synchronise(alloc, run, params, outputs, 0, store)?;
-    let refused = make_steps(alloc, run, params, outputs, store)?;
+    let refused = make_steps(alloc, run, params, outputs, forces, store)?;
     close_file(alloc, store, &params.kick_file)?;
     Ok(refused)
 }
@@ -251,14 +256,15 @@ fn end_of(made: Result<Option<StepEnd>, Failure>) -> End
     }
 }
 
-/// A run from tick 0 on. The kick file is made first; then base steps are made while the tick is below
-/// `TimeMax`, a snapshot is written where a listed time has come and at the end, and the lines of each base
-/// step's kicks stand in the kick file before its snapshot is made. The set is spent.
-pub fn run<S: Store>(
+/// A run from tick 0 on, by the forces that are found. The kick file is made first; then base steps are made
+/// while the tick is below `TimeMax`, a snapshot is written where a listed time has come and at the end, and
+/// the lines of each base step's kicks stand in the kick file before its snapshot is made. The set is spent.
+pub fn run<F: Forces, S: Store>(
     alloc: Global,
     set: BodySet,
     params: &Params,
     outputs: &[u64],
+    forces: &mut F,
     store: &mut S,
 ) -> Ended
     ensures later { S.faults store.old ≤ S.faults store.new }
@@ -272,7 +278,7 @@ pub fn run<S: Store>(
         kicks: 0,
         interactions: 0,
     };
-    let made = make_session(alloc, &mut run, params, outputs, store);
+    let made = make_session(alloc, &mut run, params, outputs, forces, store);
     let end = end_of(made);
     Ended {
         end,

@@ -2,10 +2,8 @@
 ghost use Rattle.std.specs.Prelude.{◌≡◌, ◌≤◌, ◌<◌, ◌^◌, ◌*◌, length, IfOk};
 ghost use Rattle.nbody_model.specs.Bodies.{IsValid};
 
-use crate::direct::field_of;
-use crate::leaf::softening_of;
 use fixed_point::{Memory, V3, floor_div_mod, scale_in_range};
-use nbody_model::{Body, Field, Motion, Record, Setup};
+use nbody_model::{Body, Field, Forces, Motion, Record, Setup};
 use particle_set::BodySet;
 use std::alloc::Global;
 
@@ -49,6 +47,13 @@ fn half_of(bin: u8) -> u64
     ensures high { result ≤ 2 ^ 19 }
 {
     power(bin - 1)
+}
+
+// The softening length of a body, in length units.
+fn softening_of(setup: &Setup, body: &Body) -> u32
+    ensures { result ≤ 2 ^ 30 }
+{
+    setup.soft[body.kind as usize]
 }
 
 // How large the force on a body may be, times `4^bin`.
@@ -189,13 +194,14 @@ fn record_of(set: &BodySet, forces: &Field, setup: &Setup, tick: u64) -> Record 
     }
 }
 
-/// One base step of all bodies from a tick on, in the one bin of the setup. The kicks that were made are
-/// behind those before, also where it ends early.
-pub fn base_step(
+/// One base step of all bodies from a tick on, in the one bin of the setup, by the forces that are found. The
+/// kicks that were made are behind those before, also where it ends early.
+pub fn base_step<F: Forces>(
     alloc: Global,
     set: &mut BodySet,
     setup: &Setup,
     tick: u64,
+    forces: &mut F,
     kicks: &mut Vec<Record>,
 ) -> Result<(), StepEnd>
     requires { tick ≤ 2 ^ 40 }
@@ -203,7 +209,7 @@ pub fn base_step(
     let bin = setup.top_bin;
     let ticks = 2 * half_of(bin);
     let end = tick + ticks;
-    let first = field_of(alloc, setup, set.bodies())?;
+    let first = forces.force(set.bodies())?;
     if let Some(id) = first_unfit(setup, set.bodies(), &first.forces, bin) {
         return Err(StepEnd::StepRange { tick, id });
     }
@@ -212,7 +218,7 @@ pub fn base_step(
         .push(record_of(set, &first, setup, tick))
         .map_err(|_| Memory)?;
     drift(set, ticks, setup.velocity_shift);
-    let second = field_of(alloc, setup, set.bodies())?;
+    let second = forces.force(set.bodies())?;
     kick(alloc, set, &second, setup, end)?;
     kicks
         .push(record_of(set, &second, setup, end))

@@ -183,7 +183,54 @@ fn runs_end_as_they_should(rt: HostRuntime) -> Result<(), Fail> {
     let short = "VelocityShift 4\nErrTolIntAccuracy 31246\nTimeMax 2";
     assert!(rt; prints(alloc, short, &PAIR, 21, "step range tick 0 id 1\n")?);
     let same = [at(1, 7, 0), at(2, 7, 0)];
-    assert!(rt; prints(alloc, STEP, &same, 9, "not built\n")?);
+    assert!(rt; prints(alloc, STEP, &same, 0, none)?);
+    let leaf = [at(1, 0, 0), at(2, 0, 0), at(3, 0, 0), at(4, 1000, 0)];
+    assert!(rt; prints(alloc, STEP, &leaf, 0, moved)?);
+    Ok(())
+}
+
+// A table of two steps to half the box, of zeros but for one number of one entry.
+fn table(alloc: Global, entry: usize, number: u32) -> Result<Vec<u8>, Memory> {
+    let mut bytes = Vec::from_slice(alloc, b"I4EWALD1")?;
+    bytes.extend_from_slice(&1u32.to_le_bytes())?;
+    bytes.extend_from_slice(&0u32.to_le_bytes())?;
+    for i in 0..27 {
+        let x = if i == entry { number } else { 0 };
+        bytes.extend_from_slice(&x.to_le_bytes())?;
+        bytes.extend_from_slice(&[0; 8])?;
+    }
+    Ok(bytes)
+}
+
+// What a run with a table of this name prints, and its status, where a file `table.dat` has these bytes.
+fn prints_with_table(
+    alloc: Global,
+    last_lines: &str,
+    bytes: &[u8],
+    code: u8,
+    want: &str,
+) -> Result<bool, Memory> {
+    let mut store = store_of(alloc, last_lines, &PAIR)?;
+    store.put(&text(alloc, b"table.dat")?, bytes)?;
+    let mut sink = MemSink::new(alloc);
+    let got = run_words(alloc, &["run", "param.txt", "1"], &mut store, &mut sink)?;
+    Ok(got == code && sink.bytes() == want.as_bytes())
+}
+
+#[test]
+fn tables_are_read(rt: HostRuntime) -> Result<(), Fail> {
+    let alloc = rt.alloc();
+    let named = "VelocityShift 20\nErrTolIntAccuracy 65536\nTimeMax 2\nEwaldTableFile table.dat\n";
+    let absent = "VelocityShift 20\nErrTolIntAccuracy 65536\nTimeMax 2\nEwaldTableFile table\n";
+    let done = "done tick 2 steps 1 snapshots 1 kicks 2 interactions 2 momentum 0 0 0\n";
+    let right = table(alloc, 1, 1 << 30)?;
+    assert!(rt; prints_with_table(alloc, named, &right, 0, done)?);
+    assert!(rt; prints_with_table(alloc, absent, &right, 7, "absent table\n")?);
+    let cut = right.get(..339).ok_or("short")?;
+    assert!(rt; prints_with_table(alloc, named, cut, 12, "table length 340 339\n")?);
+    let plane = table(alloc, 0, 1)?;
+    assert!(rt; prints_with_table(alloc, named, &plane, 12, "table plane 0\n")?);
+    assert!(rt; prints_with_table(alloc, named, b"I4EWALD2", 12, "table tag\n")?);
     Ok(())
 }
 

@@ -1,4 +1,4 @@
-use Rattle.std.proofs.Common.{◌⊎◌, inl, inr}
+use Rattle.std.proofs.Common.{inl, inr}
 use Rattle.gadget.proofs.inputs.params_of.Goals as goal
 
 pub returns-in_default : goal.returns-in_default

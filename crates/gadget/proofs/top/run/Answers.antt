@@ -1,5 +1,9 @@
+use Rattle.std.proofs.Common.{inl}
 use Rattle.gadget.proofs.StepEnds.{steps_end}
 use Rattle.gadget.proofs.top.run.Goals as goal
+
+pub returns-in-Err-clause-err : goal.returns-in-Err-clause-err
+returns-in-Err-clause-err g c = inl (c.in-Err.ensures.err, c.in-Err.ensures.files)
 
 pub returns-clause-err : goal.returns-clause-err
 returns-clause-err g c =

@@ -1,0 +1,42 @@
+-- How a file is read, and why it wasn't.
+use Rattle.std.specs.Prelude.{◌≡◌, ◌≤◌, ◌<◌, ℕ, Bool, true, IsTrue, IfSome, List, length, Option, Some, None}
+use Rattle.store_io.specs.Causes.{Call, Rose}
+use Rattle.store_io.specs.Files.{Files}
+use Rattle.store_io.specs.declared.errors.ReadErr.{ReadErr}
+use Rattle.store_io.specs.declared.errors.ReadErr.TheVariants.{Absent as NoFile, Failed as NotReadable, TooLong as TooMany, Memory as NoMemory}
+use Rattle.gadget.specs.declared.status.Status.{Status}
+use Rattle.gadget.specs.declared.status.Status.TheVariants.{Memory, ReadFault, Absent, TooLong}
+
+-- what is told of the files before a call that changes none, and of the faults before and after it
+pub record Seen : Type 0 where
+  pub tells : Bool
+  pub files : Files
+  pub faults : ℕ
+  pub faults_new : ℕ
+  pub last : Option Call
+
+-- a file of this name stands, has these bytes, and isn't longer than the limit
+pub record WasRead (files : Files) (name : List ℕ) (limit : ℕ) (bytes : List ℕ) : Type 0 where
+  pub stands : files name ≡ Some bytes
+  pub short : length bytes ≤ limit
+
+-- a file of this name stands, and is longer than the limit
+pub record IsLong (files : Files) (name : List ℕ) (limit len : ℕ) : Type 0 where
+  pub bytes : List ℕ
+  pub stands : files name ≡ Some bytes
+  pub is : len ≡ length bytes
+
+-- why a file of this name wasn't read
+abbrev pub NotRead : Seen → List ℕ → ℕ → Status → Type 0
+NotRead s name limit (Absent n) = (n ≡ name) × (IsTrue s.tells → s.files name ≡ None)
+NotRead s name limit (TooLong n len) = (n ≡ name) × (limit < len) × (IsTrue s.tells → IsLong s.files name limit len)
+NotRead s name limit (ReadFault n) = (n ≡ name) × Rose s.faults s.faults_new × IfSome s.last (λ c. c ≡ (name, true))
+NotRead s name limit Memory = Unit {0}
+NotRead s name limit status = ⊥
+
+-- the answer for a file that wasn't read
+abbrev pub status_of : ReadErr → List ℕ → Status
+status_of NoFile name = Absent name
+status_of NotReadable name = ReadFault name
+status_of (TooMany len) name = TooLong name len
+status_of NoMemory name = Memory

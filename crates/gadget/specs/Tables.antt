@@ -1,0 +1,47 @@
+-- The tables that a parameter file may name, and why one isn't accepted.
+use Rattle.std.specs.Prelude.{◌≡◌, ℕ, IsTrue, List, Option, Some, None}
+use Rattle.store_io.specs.Files.{Files}
+use Rattle.nbody_model.specs.Tables.{TableData}
+use Rattle.ewald_table.specs.TableFile.{Spell, IsFirstFault}
+use Rattle.ewald_table.specs.declared.errors.TableErr.{TableErr}
+use Rattle.gadget.specs.declared.status.Status.{Status}
+use Rattle.gadget.specs.declared.status.Status.TheVariants.{Memory, Table}
+use Rattle.gadget.specs.Reads.{Seen, WasRead, NotRead}
+
+-- the longest tables, in bytes
+abbrev pub longest_table : ℕ
+longest_table = 4194304
+
+-- the file of this name spells this table
+pub record NamesTable (files : Files) (name : List ℕ) (t : TableData) : Type 0 where
+  pub bytes : List ℕ
+  pub read : WasRead files name longest_table bytes
+  pub spelled : Spell bytes t
+
+-- the table of a file that may be named, none where it isn't
+abbrev pub GivesTable : Files → Option (List ℕ) → Option TableData → Type 0
+GivesTable files None table = table ≡ None
+GivesTable files (Some name) None = ⊥
+GivesTable files (Some name) (Some t) = NamesTable files name t
+
+-- the file of this name spells no table, and this is its first fault
+pub record HasTableFault (files : Files) (name : List ℕ) (err : TableErr) : Type 0 where
+  pub bytes : List ℕ
+  pub read : WasRead files name longest_table bytes
+  pub fault : IsFirstFault bytes err
+
+-- why a table of this name isn't accepted
+abbrev pub NamedTableRefusal : Seen → List ℕ → Status → Type 0
+NamedTableRefusal s name (Table err) = IsTrue s.tells → HasTableFault s.files name err
+NamedTableRefusal s name status = NotRead s name longest_table status
+
+-- why the table that may be named isn't accepted
+abbrev pub TableRefusal : Seen → Option (List ℕ) → Status → Type 0
+TableRefusal s None status = ⊥
+TableRefusal s (Some name) status = NamedTableRefusal s name status
+
+-- the answers of the reader alone
+abbrev pub TableAnswer : List ℕ → Status → Type 0
+TableAnswer bytes (Table err) = IsFirstFault bytes err
+TableAnswer bytes Memory = Unit {0}
+TableAnswer bytes status = ⊥

@@ -1,0 +1,76 @@
+// The table of corrections that a parameter file may name.
+ghost use Rattle.std.specs.Prelude.{◌≡◌, IsTrue, IfOk, IfErr, OnOk};
+ghost use Rattle.ewald_table.specs.TableFile.{Spell as SpellTable};
+ghost use Rattle.gadget.specs.Reads.{Seen};
+ghost use Rattle.gadget.specs.Tables.{GivesTable, NamedTableRefusal, NamesTable, TableAnswer, TableRefusal};
+
+use crate::inputs::read_file;
+use crate::status::Status;
+use ewald_table::{Table, TableErr, read_table};
+use param_file::Params;
+use std::alloc::Global;
+use store_io::{Store, Text};
+
+/// The longest table, in bytes.
+const LONGEST_TABLE: u64 = 4_194_304;
+
+// The table that bytes spell.
+fn table_of(alloc: Global, bytes: &[u8]) -> Result<Table, Status>
+    ensures ok { IfOk result (SpellTable bytes.now) }
+    ensures err { IfErr result (TableAnswer bytes.now) }
+{
+    match read_table(alloc, bytes) {
+        Ok(table) => Ok(table),
+        Err(TableErr::Memory) => Err(Status::Memory),
+        Err(err) => Err(Status::Table(err)),
+    }
+}
+
+// Reads a table.
+fn load_table<S: Store>(alloc: Global, store: &mut S, name: &Text) -> Result<Table, Status>
+    ensures tells { S.tells store.new ≡ S.tells store.old }
+    ensures files { S.file store.new ≡ S.file store.old }
+    ensures ok { IfOk result (λ t. IsTrue (S.tells store.old) → NamesTable (S.file store.old) name.now t) }
+    ensures quiet { OnOk result ((S.faults store.new ≡ S.faults store.old) × (S.last store.new ≡ S.last store.old)) }
+    ensures err { IfErr result (NamedTableRefusal (record {
+      tells = S.tells store.old;
+      files = S.file store.old;
+      faults = S.faults store.old;
+      faults_new = S.faults store.new;
+      last = S.last store.new;
+    }) name.now) }
+{
+    let bytes = match read_file(alloc, store, name, LONGEST_TABLE) {
+        Ok(bytes) => bytes,
+        Err(status) => return Err(status),
+    };
+    table_of(alloc, &bytes)
+}
+
+/// Reads the table of corrections, none where no table is named.
+pub fn load_corrections<S: Store>(
+    alloc: Global,
+    store: &mut S,
+    params: &Params,
+) -> Result<Option<Table>, Status>
+    ensures tells { S.tells store.new ≡ S.tells store.old }
+    ensures files { S.file store.new ≡ S.file store.old }
+    ensures ok { IfOk result (λ t. IsTrue (S.tells store.old)
+        → GivesTable (S.file store.old) params.now.ewald_table_file t) }
+    ensures quiet { OnOk result ((S.faults store.new ≡ S.faults store.old) × (S.last store.new ≡ S.last store.old)) }
+    ensures err { IfErr result (TableRefusal (record {
+      tells = S.tells store.old;
+      files = S.file store.old;
+      faults = S.faults store.old;
+      faults_new = S.faults store.new;
+      last = S.last store.new;
+    }) params.now.ewald_table_file) }
+{
+    match &params.ewald_table_file {
+        Some(name) => match load_table(alloc, store, name) {
+            Ok(table) => Ok(Some(table)),
+            Err(status) => Err(status),
+        },
+        None => Ok(None),
+    }
+}
