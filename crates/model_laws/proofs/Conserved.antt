@@ -106,7 +106,7 @@ going B p = IsConserved B p.bodies p.trail
 quiet : (B : List BodyData) (what : Happening) (p : Progress) → AllByRecursion (tells (total B)) (record_in what ++ []) → going B p → going B (tell what p)
 quiet B what p n k = record { bodies = k.bodies; same = k.same; momentum = k.momentum; told = told_more (total B) p.trail (what ∷ []) k.told n }
 
-drift_goes : (s : SetupData) (B : List BodyData) (P : List ℕ) (ticks : ℕ) (p : Progress) → going B p → going B (record p { bodies = drift s P ticks p.bodies })
+pub drift_goes : (s : SetupData) (B : List BodyData) (P : List ℕ) (ticks : ℕ) (p : Progress) → going B p → going B (record p { bodies = drift s P ticks p.bodies })
 drift_goes s B P ticks p k =
     let same = at_each_same (drifted s ticks) (λ b. refl) P p.bodies in
     record {
@@ -117,10 +117,10 @@ drift_goes s B P ticks p k =
     }
 
 -- after a kick
-abbrev kicked_by_all : Rules → List ℕ → List ℕ → ℕ → List BodyData → List BodyData
+abbrev pub kicked_by_all : Rules → List ℕ → List ℕ → ℕ → List BodyData → List BodyData
 kicked_by_all r P F h B = kicked_bodies h P (change r.gravity P F B) B
 
-kick_goes : (r : Rules) (B : List BodyData) (bin tick h : ℕ) (P F : List ℕ) (p : Progress) → IsPart F P → going B p →
+pub kick_goes : (r : Rules) (B : List BodyData) (bin tick h : ℕ) (P F : List ℕ) (p : Progress) → IsPart F P → going B p →
     going B (tell (Kicked (record_of r tick bin P F p.bodies (kicked_by_all r P F h p.bodies))) (record p { bodies = kicked_by_all r P F h p.bodies }))
 kick_goes r B bin tick h P F p part k =
     let v = change r.gravity P F p.bodies in

@@ -1,0 +1,14 @@
+pub mod Times
+pub mod Telling
+pub mod Joins
+pub mod Picks
+pub mod Leaves
+pub mod Changes
+pub mod Keeps
+pub mod Adds
+pub mod FastParts
+pub mod Closing
+pub mod Stepping
+pub mod Deepening
+pub mod Ending
+pub mod Whole

@@ -1,0 +1,50 @@
+// What the steps of a base step go by.
+ghost use Rattle.std.specs.Prelude.{◌≡◌, ◌≤◌, ◌+◌, ◌-◌, ◌^◌, option_copied};
+ghost use Rattle.nbody_model.specs.Factors.{drift_factor, kick_factor};
+ghost use Rattle.step_engine.specs.Stands.{IsTimely};
+
+use expansion_table::Expansion;
+use nbody_model::Setup;
+
+/// The setup, the expansion table if there is one, and the momentum of all bodies together.
+#[derive(Clone, Copy)]
+pub(crate) struct Course<'a> {
+    pub setup: &'a Setup,
+    pub expansion: Option<&'a Expansion>,
+    pub total: [i128; 3],
+}
+
+/// A power of two.
+pub(crate) fn power(bin: u8) -> u64
+    requires { bin ≤ 20 }
+    ensures { result ≡ 2 ^ bin }
+{
+    1u64 << bin
+}
+
+/// How far the first kick of a step counts.
+pub(crate) fn first_factor(course: &Course, bin: u8, tick: u64) -> u64
+    requires { IsTimely (option_copied course.now.expansion) bin tick 0 }
+    ensures value { result ≡ kick_factor (option_copied course.now.expansion) tick (tick + 2 ^ (bin - 1)) }
+    ensures most { result ≤ 2 ^ 19 }
+{
+    expansion_table::kick_factor(course.expansion, tick, tick + power(bin - 1))
+}
+
+/// How far the second kick of a step counts.
+pub(crate) fn last_factor(course: &Course, bin: u8, tick: u64) -> u64
+    requires { IsTimely (option_copied course.now.expansion) bin tick 0 }
+    ensures value { result ≡ kick_factor (option_copied course.now.expansion) (tick + 2 ^ (bin - 1)) (tick + 2 ^ bin) }
+    ensures most { result ≤ 2 ^ 19 }
+{
+    expansion_table::kick_factor(course.expansion, tick + power(bin - 1), tick + power(bin))
+}
+
+/// How far the drift of a step counts.
+pub(crate) fn drift_ticks(course: &Course, bin: u8, tick: u64) -> u64
+    requires { IsTimely (option_copied course.now.expansion) bin tick 0 }
+    ensures value { result ≡ drift_factor (option_copied course.now.expansion) tick (tick + 2 ^ bin) }
+    ensures most { result ≤ 2 ^ 20 }
+{
+    expansion_table::drift_factor(course.expansion, tick, tick + power(bin))
+}

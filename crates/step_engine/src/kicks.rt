@@ -1,0 +1,124 @@
+// The kick of a part of the bodies.
+ghost use Rattle.std.specs.Prelude.{◌≡◌, ◌≤◌, ◌==◌, ◌+◌, ◌*◌, ◌^◌, ◌∷◌, [], All, ℕ, length, None, Some, OnErr, OnOk, IfErr, option_copied, if◌then◌else◌};
+ghost use Rattle.fixed_point.specs.Vectors.{IsAtMost};
+ghost use Rattle.nbody_model.specs.Bodies.{only};
+ghost use Rattle.nbody_model.specs.Setups.{IsSetup};
+ghost use Rattle.nbody_model.specs.Evolve.{kick};
+ghost use Rattle.model_laws.specs.Still.{SamePlaces};
+ghost use Rattle.kick_drift.specs.Parts.{AreAscending, after_kick, ids_at};
+ghost use Rattle.step_engine.specs.Halts.{refusal_of};
+ghost use Rattle.step_engine.specs.Told.{AreForcesAmong};
+ghost use Rattle.step_engine.specs.Stands.{AreOf, HasEach, IsGiven, IsReady, IsRefusedBy, now, out_after};
+ghost use Rattle.step_engine.specs.Ends.{Makes};
+
+use crate::course::Course;
+use crate::halt::{Halt, halt_for};
+use crate::work::Work;
+use crate::{KickOut, StepCount};
+use kick_drift::{KickErr, kick};
+use nbody_model::{Field, Forces, Record, Setup};
+use particle_set::BodySet;
+
+// Kicks the bodies at the places `whole`, unless h is 0: then nothing changes, and nothing is refused.
+fn kick_unless_none(
+    set: &mut BodySet,
+    whole: &[u32],
+    f: &Field,
+    fast: &[u32],
+    quick: &Field,
+    h: u64,
+) -> Result<(), KickErr>
+    requires whole { AreAscending set.old whole.now }
+    requires fast { AreAscending set.old fast.now }
+    requires slow { HasEach whole.now f.now.forces }
+    requires quick { HasEach fast.now quick.now.forces }
+    requires high { h ≤ 2 ^ 19 }
+    ensures kicked { OnOk result (set.new ≡ (if h == 0 then set.old else after_kick h whole.now f.now.forces fast.now quick.now.forces set.old)) }
+    ensures in_range { OnOk result (out_after h (ids_at set.old whole.now) (after_kick h whole.now f.now.forces fast.now quick.now.forces set.old) ≡ None) }
+    ensures refused { IfErr result (IsRefusedBy (out_after h (ids_at set.old whole.now) (after_kick h whole.now f.now.forces fast.now quick.now.forces set.old))) }
+    ensures unchanged { OnErr result (set.new ≡ set.old) }
+{
+    if h == 0 {
+        return Ok(());
+    }
+    kick(set, whole, &f.forces, fast, &quick.forces, h)
+}
+
+// Every setup keeps its limits.
+fn keeps_setup(setup: &Setup)
+    ensures { IsSetup setup.now }
+{
+    let _low = setup.low_bin;
+}
+
+// Why a step halts where a kick of a tick and a bin is refused.
+fn refusal_of(tick: u64, bin: u8, refusal: KickErr) -> Halt
+    ensures { result ≡ refusal_of tick bin refusal }
+{
+    match refusal {
+        KickErr::MomRange { id, axis } => Halt::MomRange {
+            tick,
+            bin,
+            id,
+            axis,
+        },
+    }
+}
+
+// One kick more, of forces with so many interactions.
+fn count_kick(count: &mut StepCount, pairs: u64, fast_pairs: u64)
+    requires room { count.old.kicks ≤ 2 ^ 40 }
+    requires counted { count.old.interactions ≤ count.old.kicks * 2 ^ 65 }
+    ensures kicks { count.new.kicks ≡ count.old.kicks + 1 }
+    ensures interactions { count.new.interactions ≡ count.old.interactions + (pairs + fast_pairs) }
+    ensures counted { count.new.interactions ≤ count.new.kicks * 2 ^ 65 }
+{
+    count.kicks += 1;
+    count.interactions += u128::from(pairs) + u128::from(fast_pairs);
+}
+
+/// Kicks the bodies at the places `whole` by h in a bin, by the forces f among them, less the forces among those at the
+/// places `fast`, all found by `_forces`; and hands the kick out.
+pub(crate) fn kick_part<F: Forces, O: KickOut>(
+    course: &Course,
+    set: &mut BodySet,
+    _forces: &F,
+    out: &mut O,
+    work: &mut Work,
+    bin: u8,
+    whole: &[u32],
+    f: &Field,
+    fast: &[u32],
+    quick: &Field,
+    tick: u64,
+    h: u64,
+) -> Result<(), Halt>
+    requires ready { IsReady course.now.setup.now course.now.total (now set.old (F.gravity _forces.now) (F.fixed _forces.now) (F.state _forces.now) (O.faults out.old) (O.yes out.old) (O.took out.old) work.old) }
+    requires whole { IsGiven (F.gravity _forces.now) set.old whole.now f.now }
+    requires fast { AreOf set.old whole.now fast.now }
+    requires quick { AreForcesAmong (F.gravity _forces.now) (only set.old (ids_at set.old fast.now)) quick.now }
+    requires high { h ≤ 2 ^ 19 }
+    requires room { work.old.count.kicks ≤ 2 ^ 40 }
+    ensures places { SamePlaces set.new set.old }
+    ensures makes { (n : ℕ) → Makes F.passes n 1 tick tick (λ stop p. kick (record { gravity = F.gravity _forces.now; expansion = option_copied course.now.expansion }) bin (ids_at set.old whole.now) (ids_at set.old fast.now) tick h p) result (now set.old (F.gravity _forces.now) (F.fixed _forces.now) (F.state _forces.now) (O.faults out.old) (O.yes out.old) (O.took out.old) work.old) (now set.new (F.gravity _forces.now) (F.fixed _forces.now) (F.state _forces.now) (O.faults out.new) (O.yes out.new) (O.took out.new) work.new) }
+{
+    keeps_setup(course.setup);
+    match kick_unless_none(set, whole, f, fast, quick, h) {
+        Ok(()) => {}
+        Err(refusal) => return Err(refusal_of(tick, bin, refusal)),
+    }
+    count_kick(&mut work.count, f.interactions, quick.interactions);
+    let entry = Record {
+        tick,
+        bin,
+        whole: whole.len() as u32,
+        fast: fast.len() as u32,
+        pairs: f.interactions,
+        fast_pairs: quick.interactions,
+        total: course.total,
+    };
+    match out.kicked(&entry) {
+        Ok(()) => Ok(()),
+        Err(e) => Err(halt_for(e)),
+    }
+}
