@@ -2,3 +2,4 @@ pub mod MotionLemmas
 pub mod RowLemmas
 pub mod Least
 pub mod Refusals
+pub mod OneSet

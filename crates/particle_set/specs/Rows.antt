@@ -77,3 +77,12 @@ IsMomentumRefusal rows (ZeroMass id) = ⊥
 IsMomentumRefusal rows (MassTotal sum) = ⊥
 IsMomentumRefusal rows (MomRange id) = IsLeastId IsOutside rows id
 IsMomentumRefusal rows Memory = Unit {0}
+
+-- the refusal is want of memory
+abbrev pub IsRefusalByMemory : SetErr → Type 0
+IsRefusalByMemory (TooMany n) = ⊥
+IsRefusalByMemory (Repeated id) = ⊥
+IsRefusalByMemory (ZeroMass id) = ⊥
+IsRefusalByMemory (MassTotal sum) = ⊥
+IsRefusalByMemory (MomRange id) = ⊥
+IsRefusalByMemory Memory = Unit {0}

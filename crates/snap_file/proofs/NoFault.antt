@@ -1,79 +1,21 @@
 -- Bytes that are a snapshot have no fault.
-use Rattle.std.proofs.Common.{◌≡◌, ℕ, ◌+◌, ◌<◌, ◌≤◌, ◌==◌, Bool, true, false, cond, not, List, [], ◌∷◌, length, map, take, sum, sum_by, slice_index_or, Option, Some, None, is_some, inl, inr, refl, sym, ap, subst, ◌∙◌, arith, true≢false}
+use Rattle.std.proofs.Common.{◌≡◌, ℕ, ◌<◌, Bool, true, false, cond, not, List, length, take, sum, slice_index_or, Option, Some, None, is_some, inl, inr, refl, sym, ap, subst, ◌∙◌, true≢false}
 use Rattle.std.specs.Option.{option_map}
-use Rattle.std.proofs.lemmas.Bool.{cases_eq}
-use Rattle.std.proofs.lemmas.Bool.Decides.{nat_tests}
-use Rattle.std.proofs.lemmas.List.{length-map}
-use Rattle.std.proofs.lemmas.List.Sums.{sum_by-cons}
-use Rattle.std.proofs.lemmas.List.Sorted.{sum_by-IsPermutation, length_permutation}
 use Rattle.snapshot_blocks.specs.declared.block.Block.{Block}
 use Rattle.snapshot_blocks.proofs.Framing.{read_one_way}
 use Rattle.nbody_model.specs.Bodies.{BodyData}
 use Rattle.nbody_model.specs.SnapshotText.{head_name}
-use Rattle.particle_set.specs.declared.row.Row.{Row}
-use Rattle.particle_set.specs.declared.row.SetErr.{SetErr}
-use Rattle.particle_set.specs.declared.row.SetErr.TheVariants.{TooMany, Repeated, ZeroMass, MassTotal, MomRange, Memory as NoRoom}
-use Rattle.particle_set.specs.Rows.{IsSetOf, IsFirstRefusal, HasMass, HasMomentum, body_of}
+use Rattle.particle_set.specs.Rows.{IsFirstRefusal}
+use Rattle.particle_set.proofs.OneSet.{no_refusal}
 use Rattle.snap_file.specs.declared.head.Head.{Head}
 use Rattle.snap_file.specs.declared.errors.SnapErr.{SnapErr}
 use Rattle.snap_file.specs.declared.errors.SnapErr.TheVariants.{Block as InFrames, RepeatedBlock, MissingBlock, HeadLength, HeadTag, Gas, BlockLength, Bodies as InBodies, Memory}
 use Rattle.snap_file.specs.Snapshots.{ColumnTexts, AreColumns, HasHead, HasColumns, SpellsHead, SpellsSnapshot, IsHeadFault, IsSnapshotFault, IsFirstRepeat, RepeatsBlock, LacksHead, LacksColumn, HasHeadFault, HasCountsFault, HasLengthFault, contents_named, missing_column, head_fault, counts_fault, lengths_fault, repeats, rows_in}
-use Rattle.snap_file.specs.Exact.{IsWantOfMemory, IsRefusalByMemory, ReadOneWay}
-use Rattle.snap_file.proofs.OneReading.{IsIn, Rises, rises, some_same, same_blocks, one_head, one_columns, same_rows, one_snapshot}
+use Rattle.snap_file.specs.Exact.{IsWantOfMemory, ReadOneWay}
+use Rattle.snap_file.proofs.OneReading.{some_same, same_blocks, one_head, one_columns, same_rows, one_snapshot}
 
 some_none : {A : Type 0} {x : A} {o : Option A} → o ≡ Some x → o ≡ None → ⊥
 some_none e f = cc
-
--- ---- rows that are a set have no refusal
-
-sum-bodies : (g : BodyData → ℕ) (rows : List Row) → sum_by g (map body_of rows) ≡ sum_by (λ r. g (body_of r)) rows
-sum-bodies g [] = refl
-sum-bodies g (r ∷ rows) = omega (arith, sum_by-cons g (body_of r) (map body_of rows), sum_by-cons (λ r. g (body_of r)) r rows, sum-bodies g rows)
-
-sum-set : (g : BodyData → ℕ) (rows : List Row) (B : List BodyData) → IsSetOf rows B → sum_by (λ r. g (body_of r)) rows ≡ sum_by g B
-sum-set g rows B h = sym (sum-bodies g rows) ∙ sym (sum_by-IsPermutation g (map body_of rows) B h.bodies)
-
-counts_none : (id : ℕ) (bs : List BodyData) → ((x : BodyData) → IsIn x bs → id < x.id) → sum_by (λ b. cond (b.id == id) 1 0) bs ≡ 0
-unfolding IsIn
-counts_none id [] h = refl
-counts_none id (b ∷ bs) h =
-    let above : id < b.id = h b (inl refl) in
-    let test : (b.id == id) ≡ false = grind (arith, nat_tests) in
-    sum_by-cons (λ b. cond (b.id == id) 1 0) b bs ∙ ap (λ t. cond t 1 0 + sum_by (λ b. cond (b.id == id) 1 0) bs) test
-    ∙ ap (λ n. 0 + n) (counts_none id bs (λ x i. h x (inr i)))
-
-counts_one : (id : ℕ) (bs : List BodyData) → Rises bs → sum_by (λ b. cond (b.id == id) 1 0) bs ≤ 1
-unfolding Rises
-counts_one id [] r = omega arith
-counts_one id (b ∷ bs) r =
-    let head : sum_by (λ b. cond (b.id == id) 1 0) (b ∷ bs) ≡ cond (b.id == id) 1 0 + sum_by (λ b. cond (b.id == id) 1 0) bs = sum_by-cons (λ b. cond (b.id == id) 1 0) b bs in
-    elim (cases_eq b.id id) as (λ _. sum_by (λ b. cond (b.id == id) 1 0) (b ∷ bs) ≤ 1) [
-      | inl e ↦
-          let none : sum_by (λ b. cond (b.id == id) 1 0) bs ≡ 0 = counts_none id bs (λ x i. subst (λ n. n < x.id) e (r.0 x i)) in
-          let test : (b.id == id) ≡ true = grind (arith, nat_tests) in
-          let one : ◌≡◌ {A = ℕ} (cond (b.id == id) 1 0) 1 = ap (λ t. cond t 1 0) test in
-          omega (arith, head, none, one)
-      | inr n ↦
-          let test : (b.id == id) ≡ false = grind (arith, nat_tests) in
-          let none : ◌≡◌ {A = ℕ} (cond (b.id == id) 1 0) 0 = ap (λ t. cond t 1 0) test in
-          omega (arith, head, none, counts_one id bs r.1)
-    ]
-
-no_refusal : (rows : List Row) (B : List BodyData) (e : SetErr) → IsSetOf rows B → IsFirstRefusal rows e → IsRefusalByMemory e
-no_refusal rows B (TooMany n) h f =
-    omega (arith, f.0, f.1, length_permutation (map body_of rows) B h.bodies, length-map rows body_of, h.valid.few)
-no_refusal rows B (Repeated id) h f =
-    let a = f.1.among in
-    omega (arith, a.4.0.twice, sum-set (λ b. cond (b.id == a.1.id) 1 0) rows B h, counts_one a.1.id B (rises B h.valid.ascending))
-no_refusal rows B (ZeroMass id) h f =
-    let a = f.2.among in
-    let m : HasMass a.1 = subst HasMass a.3 (h.massive a.0 a.1 a.2) in
-    omega (arith, m.low, a.4.0.zero_mass)
-no_refusal rows B (MassTotal sum) h f = omega (arith, f.3, f.4, sum-set (λ b. b.mass) rows B h, h.valid.light)
-no_refusal rows B (MomRange id) h f =
-    let a = f.4.among in
-    a.4.0.out_of_range (subst HasMomentum a.3 (h.in_range a.0 a.1 a.2))
-no_refusal rows B NoRoom h f = tt
 
 -- ---- the checks before
 

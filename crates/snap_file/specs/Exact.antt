@@ -1,22 +1,13 @@
 -- How many answers the bytes of a snapshot have.
 use Rattle.std.specs.Prelude.{◌≡◌, ℕ, List}
 use Rattle.nbody_model.specs.Bodies.{BodyData}
-use Rattle.particle_set.specs.declared.row.SetErr.{SetErr}
-use Rattle.particle_set.specs.declared.row.SetErr.TheVariants.{TooMany, Repeated, ZeroMass, MassTotal, MomRange, Memory as NoRoom}
+use Rattle.particle_set.specs.Rows.{IsRefusalByMemory}
 use Rattle.snap_file.specs.declared.head.Head.{Head}
 use Rattle.snap_file.specs.declared.errors.SnapErr.{SnapErr}
 use Rattle.snap_file.specs.declared.errors.SnapErr.TheVariants.{Block as InFrames, RepeatedBlock, MissingBlock, HeadLength, HeadTag, Gas, BlockLength, Bodies as InBodies, Memory}
 use Rattle.snap_file.specs.Snapshots.{SpellsHead, SpellsSnapshot, IsHeadFault, IsSnapshotFault}
 
 -- the error is want of memory
-abbrev pub IsRefusalByMemory : SetErr → Type 0
-IsRefusalByMemory (TooMany n) = ⊥
-IsRefusalByMemory (Repeated id) = ⊥
-IsRefusalByMemory (ZeroMass id) = ⊥
-IsRefusalByMemory (MassTotal sum) = ⊥
-IsRefusalByMemory (MomRange id) = ⊥
-IsRefusalByMemory NoRoom = Unit {0}
-
 abbrev pub IsWantOfMemory : SnapErr → Type 0
 IsWantOfMemory (InFrames e) = ⊥
 IsWantOfMemory (RepeatedBlock name) = ⊥

@@ -1,0 +1,10 @@
+pub mod BodyWords
+pub mod EachBody
+pub mod Front
+pub mod Halves
+pub mod Joins
+pub mod Kept
+pub mod OfBytes
+pub mod OneReading
+pub mod RoundTrip
+pub mod Spelled

@@ -1,0 +1,5 @@
+pub mod Differences
+pub mod Exact
+pub mod RestartFile
+pub mod Stored
+pub mod Texts
