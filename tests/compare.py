@@ -1,7 +1,7 @@
 #!/usr/bin/env python3
 """Compares `gadget` with another program of the same commands, case by case.
 
-    tests/compare.py [--seed N] [--count N] [--kinds forces,tables,parameters,lists,snapshots,runs] [--jobs N] OTHER..
+    tests/compare.py [--seed N] [--count N] [--kinds forces,bins,tables,expansions,parameters,lists,snapshots,runs] [--jobs N] OTHER..
 
 OTHER.. is the command line of the other program; the words of a case are put behind it. Each case is made from
 the seed and its number: some files and some words. Both programs are run on them in folders of their own, and
@@ -291,6 +291,54 @@ def forces(rng):
     return files, ["run", "param.txt", "1"]
 
 
+def expansion(rng, last):
+    s = rng.choice([0, 1, 2, 3, 5])
+    n = -(-last // 2**s) + rng.choice([1, 1, 2, 3])
+    kick, drift, entries = 0, 0, b""
+    for i in range(n):
+        entries += struct.pack("<QQ", kick, drift)
+        kick += rng.choice([0, 1, 2**s, rng.randint(0, 2**s)]) if rng.random() < 0.8 else 2**s
+        drift += rng.choice([0, 2**s, rng.randint(0, 2**s)])
+        kick, drift = min(kick, (i + 1) * 2**s), min(drift, (i + 1) * 2**s)
+    return b"I4EXPAN1" + struct.pack("<II", s, n) + entries
+
+
+def bins(rng):
+    """Several bins, with and without a table of factors."""
+    top = rng.randint(1, 6)
+    low = rng.randint(1, top)
+    time_max = rng.choice([1, 2**top, 2**top + 1, 2**(top + 1)])
+    last = -(-time_max // 2**top) * 2**top
+    changes = [("TimeMax", time_max), ("LowBin", low), ("TopBin", top), ("ErrTolTheta", rng.choice([0, 0, 128, 256])),
+               ("VelocityShift", rng.choice([0, 2, 4, 4, 6, 10])), ("ErrTolIntAccuracy", rng.choice([65536, 65536, 31246, 2000, 60])),
+               ("GravityConstantInternal", rng.choice([1024, 1048576, 2**26, 2**32])), ("SofteningType2", 8192)]
+    bodies = near_bodies(rng, 2, 8)
+    if rng.random() < 0.12 and bodies:
+        rng.choice(bodies)["mom"][rng.randrange(3)] = rng.choice([2**62, 2**62 - 5, -2**62])
+    files = {"ics.dat": snapshot(bodies)}
+    if rng.random() < 0.4:
+        changes.append(("ExpansionTableFile", "expansion.dat"))
+        files["expansion.dat"] = expansion(rng, last)
+    files["param.txt"] = ("\n".join(parameter_lines(rng, changes)) + "\n").encode()
+    return files, ["run", "param.txt", "1"]
+
+
+def expansions(rng):
+    time_max = rng.choice([1, 2, 3, 8])
+    data = expansion(rng, time_max + 1)
+    if rng.random() < 0.4:
+        data = data[:rng.choice([0, 7, 8, 15, 16, 17, len(data) - 1, rng.randrange(len(data) + 1)])]
+    elif rng.random() < 0.3:
+        data = data[:12] + struct.pack("<I", rng.choice([0, 1, 2])) + data[16:]
+    if rng.random() < 0.5:
+        data = flip(rng, data)
+    params = parameter_lines(rng, [("ExpansionTableFile", "expansion.dat"), ("TimeMax", time_max)])
+    files = {"param.txt": ("\n".join(params) + "\n").encode(), "expansion.dat": data, "ics.dat": snapshot(some_bodies(rng, 3))}
+    if rng.random() < 0.03:
+        del files["expansion.dat"]
+    return files, rng.choice([["run", "param.txt", "1"], ["check", "param.txt"]])
+
+
 def tables(rng):
     data = table(rng)
     if rng.random() < 0.4:
@@ -306,7 +354,7 @@ def tables(rng):
     return files, rng.choice([["run", "param.txt", "1"], ["check", "param.txt"]])
 
 
-KINDS = {"forces": forces, "tables": tables, "parameters": parameters, "lists": lists, "snapshots": snapshots, "runs": runs}
+KINDS = {"forces": forces, "bins": bins, "tables": tables, "expansions": expansions, "parameters": parameters, "lists": lists, "snapshots": snapshots, "runs": runs}
 
 
 # ---- running

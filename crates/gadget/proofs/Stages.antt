@@ -2,11 +2,13 @@
 use Rattle.std.proofs.Common.{◌≡◌, ℕ, Bool, false, IsTrue, List, Option, sym, subst, ◌∙◌, inl, inr}
 use Rattle.store_io.specs.Causes.{Call}
 use Rattle.store_io.specs.Files.{Files}
-use Rattle.nbody_model.specs.Tables.{TableData}
-use Rattle.param_file.specs.Settings.{ParamsData}
+use Rattle.nbody_model.specs.Setups.{last_tick}
+use Rattle.nbody_model.specs.Tables.{TableData, ExpansionData}
+use Rattle.param_file.specs.Settings.{ParamsData, setup_of}
 use Rattle.gadget.specs.declared.status.Status.{Status}
 use Rattle.gadget.specs.Reads.{Seen}
 use Rattle.gadget.specs.Tables.{GivesTable, TableRefusal}
+use Rattle.gadget.specs.Factors.{GivesFactors, FactorsRefusal}
 use Rattle.gadget.specs.Inputs.{NamesParams, GivesTimes, SnapshotRefusal, InputRefusal, asks_unbuilt}
 
 -- what is seen from a stage on
@@ -36,16 +38,36 @@ table_refused t t1 t2 d d1 d2 n n1 n2 now last name p times status a1 a2 b1 b2 c
       refused = subst (λ (s : Seen). TableRefusal s p.ewald_table_file status) (seen_is t2 t d2 d n2 n now last (a2 ∙ a1) (b2 ∙ b1) (c2 ∙ c1)) refused;
     })))
 
-pub bodies_refused : (t t1 t2 t3 : Bool) (d d1 d2 d3 : Files) (n n1 n2 n3 now : ℕ) (last : Option Call) (name snapshot : List ℕ) (p : ParamsData) (times : List ℕ) (table : Option TableData) (status : Status)
-    → t1 ≡ t → t2 ≡ t1 → t3 ≡ t2 → d1 ≡ d → d2 ≡ d1 → d3 ≡ d2 → n1 ≡ n → n2 ≡ n1 → n3 ≡ n2 → snapshot ≡ p.init_cond_file
+pub factors_refused : (t t1 t2 t3 : Bool) (d d1 d2 d3 : Files) (n n1 n2 n3 now : ℕ) (last : Option Call) (name : List ℕ) (p : ParamsData) (times : List ℕ) (table : Option TableData) (status : Status)
+    → t1 ≡ t → t2 ≡ t1 → t3 ≡ t2 → d1 ≡ d → d2 ≡ d1 → d3 ≡ d2 → n1 ≡ n → n2 ≡ n1 → n3 ≡ n2
     → (IsTrue t → NamesParams d name p) → asks_unbuilt p ≡ false
     → (IsTrue t1 → GivesTimes d1 p.output_list_filename times)
     → (IsTrue t2 → GivesTable d2 p.ewald_table_file table)
-    → SnapshotRefusal (seen t3 d3 n3 now last) snapshot status
+    → FactorsRefusal (seen t3 d3 n3 now last) (last_tick (setup_of p)) p.expansion_table_file status
     → InputRefusal (seen t d n now last) name status
-bodies_refused t t1 t2 t3 d d1 d2 d3 n n1 n2 n3 now last name snapshot p times table status a1 a2 a3 b1 b2 b3 c1 c2 c3 named params built listed corrected refused =
-    let at_file = subst (λ (m : List ℕ). SnapshotRefusal (seen t3 d3 n3 now last) m status) named refused in
-    inr (inr (inr (record {
+factors_refused t t1 t2 t3 d d1 d2 d3 n n1 n2 n3 now last name p times table status a1 a2 a3 b1 b2 b3 c1 c2 c3 named built listed corrected refused =
+    inr (inr (inr (inl (record {
+      params = p;
+      named = named;
+      built = built;
+      times = times;
+      listed = held (λ F. GivesTimes F p.output_list_filename times) t1 t d1 d a1 b1 listed;
+      table = table;
+      corrected = held (λ F. GivesTable F p.ewald_table_file table) t2 t d2 d (a2 ∙ a1) (b2 ∙ b1) corrected;
+      refused = subst (λ (s : Seen). FactorsRefusal s (last_tick (setup_of p)) p.expansion_table_file status) (seen_is t3 t d3 d n3 n now last (a3 ∙ a2 ∙ a1) (b3 ∙ b2 ∙ b1) (c3 ∙ c2 ∙ c1)) refused;
+    }))))
+
+pub bodies_refused : (t t1 t2 t3 t4 : Bool) (d d1 d2 d3 d4 : Files) (n n1 n2 n3 n4 now : ℕ) (last : Option Call) (name snapshot : List ℕ) (p : ParamsData) (times : List ℕ) (table : Option TableData) (factors : Option ExpansionData) (status : Status)
+    → t1 ≡ t → t2 ≡ t1 → t3 ≡ t2 → t4 ≡ t3 → d1 ≡ d → d2 ≡ d1 → d3 ≡ d2 → d4 ≡ d3 → n1 ≡ n → n2 ≡ n1 → n3 ≡ n2 → n4 ≡ n3 → snapshot ≡ p.init_cond_file
+    → (IsTrue t → NamesParams d name p) → asks_unbuilt p ≡ false
+    → (IsTrue t1 → GivesTimes d1 p.output_list_filename times)
+    → (IsTrue t2 → GivesTable d2 p.ewald_table_file table)
+    → (IsTrue t3 → GivesFactors d3 (last_tick (setup_of p)) p.expansion_table_file factors)
+    → SnapshotRefusal (seen t4 d4 n4 now last) snapshot status
+    → InputRefusal (seen t d n now last) name status
+bodies_refused t t1 t2 t3 t4 d d1 d2 d3 d4 n n1 n2 n3 n4 now last name snapshot p times table factors status a1 a2 a3 a4 b1 b2 b3 b4 c1 c2 c3 c4 named params built listed corrected expanded refused =
+    let at_file = subst (λ (m : List ℕ). SnapshotRefusal (seen t4 d4 n4 now last) m status) named refused in
+    inr (inr (inr (inr (record {
       params = p;
       named = params;
       built = built;
@@ -53,5 +75,7 @@ bodies_refused t t1 t2 t3 d d1 d2 d3 n n1 n2 n3 now last name snapshot p times t
       listed = held (λ F. GivesTimes F p.output_list_filename times) t1 t d1 d a1 b1 listed;
       table = table;
       corrected = held (λ F. GivesTable F p.ewald_table_file table) t2 t d2 d (a2 ∙ a1) (b2 ∙ b1) corrected;
-      refused = subst (λ (s : Seen). SnapshotRefusal s p.init_cond_file status) (seen_is t3 t d3 d n3 n now last (a3 ∙ a2 ∙ a1) (b3 ∙ b2 ∙ b1) (c3 ∙ c2 ∙ c1)) at_file;
-    })))
+      factors = factors;
+      expanded = held (λ F. GivesFactors F (last_tick (setup_of p)) p.expansion_table_file factors) t3 t d3 d (a3 ∙ a2 ∙ a1) (b3 ∙ b2 ∙ b1) expanded;
+      refused = subst (λ (s : Seen). SnapshotRefusal s p.init_cond_file status) (seen_is t4 t d4 d n4 n now last (a4 ∙ a3 ∙ a2 ∙ a1) (b4 ∙ b3 ∙ b2 ∙ b1) (c4 ∙ c3 ∙ c2 ∙ c1)) at_file;
+    }))))

@@ -4,7 +4,7 @@ use Rattle.store_io.specs.Causes.{Rose}
 use Rattle.store_io.specs.Files.{Files}
 use Rattle.store_io.specs.Sinks.{Follows, FollowsPart}
 use Rattle.nbody_model.specs.Bodies.{BodyData}
-use Rattle.nbody_model.specs.Tables.{TableData}
+use Rattle.nbody_model.specs.Tables.{TableData, ExpansionData}
 use Rattle.param_file.specs.Settings.{ParamsData}
 use Rattle.snap_file.specs.declared.head.Head.{Head}
 use Rattle.run_session.specs.declared.session.Ended.{Ended}
@@ -22,8 +22,9 @@ pub record Checks (files : Files) (param line : List ℕ) : Type 0 where
   pub params : ParamsData
   pub times : List ℕ
   pub table : Option TableData
+  pub factors : Option ExpansionData
   pub bodies : List BodyData
-  pub accepted : Accepts files param params times table bodies
+  pub accepted : Accepts files param params times table factors bodies
   pub is : line ≡ check_text bodies
 
 -- the lines of `show`: the file of this name is a snapshot, with this head and these bodies

@@ -3,8 +3,9 @@ use Rattle.std.specs.Prelude.{◌≡◌, ◌⊎◌, ℕ, Bool, true, false, not,
 use Rattle.store_io.specs.Files.{Files}
 use Rattle.text_words.specs.Comments.{lines_in}
 use Rattle.nbody_model.specs.Bodies.{BodyData}
-use Rattle.nbody_model.specs.Tables.{TableData}
-use Rattle.param_file.specs.Settings.{ParamsData}
+use Rattle.nbody_model.specs.Setups.{last_tick}
+use Rattle.nbody_model.specs.Tables.{TableData, ExpansionData}
+use Rattle.param_file.specs.Settings.{ParamsData, setup_of}
 use Rattle.param_file.specs.Reading.{Spell as SpellParams, IsFirstFault as IsParamFault}
 use Rattle.output_schedule.specs.Times.{Spell as SpellTimes, IsFirstFault as IsListFault}
 use Rattle.snap_file.specs.Snapshots.{SpellsHead, SpellsSnapshot, IsSnapshotFault}
@@ -16,6 +17,7 @@ use Rattle.gadget.specs.declared.status.Status.{Status}
 use Rattle.gadget.specs.declared.status.Status.TheVariants.{Memory, NotBuilt, Param, Outputs, Snapshot}
 use Rattle.gadget.specs.Reads.{Seen, WasRead, NotRead}
 use Rattle.gadget.specs.Tables.{GivesTable, TableRefusal}
+use Rattle.gadget.specs.Factors.{GivesFactors, FactorsRefusal}
 
 -- the longest files that are read, in bytes
 abbrev pub longest_parameters : ℕ
@@ -44,8 +46,7 @@ pub record HasParamFault (files : Files) (name : List ℕ) (err : ParamErr) : Ty
 -- these settings ask for what isn't built
 abbrev pub asks_unbuilt : ParamsData → Bool
 asks_unbuilt p =
-    not (p.restart_every == 0) || not (p.low_bin == p.top_bin) || not (p.rank_trace == 0) ||
-    is_some p.expansion_table_file || is_some p.bin_file
+    not (p.restart_every == 0) || not (p.rank_trace == 0) || is_some p.bin_file
 
 -- the file of this name spells settings that ask for what isn't built
 pub record AsksUnbuilt (files : Files) (name : List ℕ) : Type 0 where
@@ -116,11 +117,12 @@ SnapshotRefusal s name status = NotRead s name longest_snapshot status
 
 -- ---- all inputs of a run
 
--- the parameter file of this name, and the list, the table and the snapshot that it names, are these
-pub record Accepts (files : Files) (name : List ℕ) (p : ParamsData) (times : List ℕ) (table : Option TableData) (B : List BodyData) : Type 0 where
+-- the parameter file of this name, and the list, the tables and the snapshot that it names, are these
+pub record Accepts (files : Files) (name : List ℕ) (p : ParamsData) (times : List ℕ) (table : Option TableData) (factors : Option ExpansionData) (B : List BodyData) : Type 0 where
   pub params : NamesParams files name p
   pub listed : GivesTimes files p.output_list_filename times
   pub corrected : GivesTable files p.ewald_table_file table
+  pub expanded : GivesFactors files (last_tick (setup_of p)) p.expansion_table_file factors
   pub bodies : NamesBodies files p.init_cond_file B
 
 -- the list isn't accepted, but the parameter file is
@@ -130,7 +132,7 @@ pub record RefusesList (s : Seen) (name : List ℕ) (status : Status) : Type 0 w
   pub built : asks_unbuilt params ≡ false
   pub refused : ListRefusal s params.output_list_filename status
 
--- the table isn't accepted, but the parameter file and the list are
+-- the table of corrections isn't accepted, but the parameter file and the list are
 pub record RefusesTable (s : Seen) (name : List ℕ) (status : Status) : Type 0 where
   pub params : ParamsData
   pub named : IsTrue s.tells → NamesParams s.files name params
@@ -139,7 +141,18 @@ pub record RefusesTable (s : Seen) (name : List ℕ) (status : Status) : Type 0 
   pub listed : IsTrue s.tells → GivesTimes s.files params.output_list_filename times
   pub refused : TableRefusal s params.ewald_table_file status
 
--- the snapshot isn't accepted, but the parameter file, the list and the table are
+-- the table of factors isn't accepted, but the parameter file, the list and the table of corrections are
+pub record RefusesFactors (s : Seen) (name : List ℕ) (status : Status) : Type 0 where
+  pub params : ParamsData
+  pub named : IsTrue s.tells → NamesParams s.files name params
+  pub built : asks_unbuilt params ≡ false
+  pub times : List ℕ
+  pub listed : IsTrue s.tells → GivesTimes s.files params.output_list_filename times
+  pub table : Option TableData
+  pub corrected : IsTrue s.tells → GivesTable s.files params.ewald_table_file table
+  pub refused : FactorsRefusal s (last_tick (setup_of params)) params.expansion_table_file status
+
+-- the snapshot isn't accepted, but the parameter file, the list and the tables are
 pub record RefusesBodies (s : Seen) (name : List ℕ) (status : Status) : Type 0 where
   pub params : ParamsData
   pub named : IsTrue s.tells → NamesParams s.files name params
@@ -148,11 +161,13 @@ pub record RefusesBodies (s : Seen) (name : List ℕ) (status : Status) : Type 0
   pub listed : IsTrue s.tells → GivesTimes s.files params.output_list_filename times
   pub table : Option TableData
   pub corrected : IsTrue s.tells → GivesTable s.files params.ewald_table_file table
+  pub factors : Option ExpansionData
+  pub expanded : IsTrue s.tells → GivesFactors s.files (last_tick (setup_of params)) params.expansion_table_file factors
   pub refused : SnapshotRefusal s params.init_cond_file status
 
--- the first refusal, in the order of reading: parameter file, list, table, snapshot
+-- the first refusal, in the order of reading: parameter file, list, table of corrections, table of factors, snapshot
 abbrev pub InputRefusal : Seen → List ℕ → Status → Type 0
-InputRefusal s name status = ParamRefusal s name status ⊎ (RefusesList s name status ⊎ (RefusesTable s name status ⊎ RefusesBodies s name status))
+InputRefusal s name status = ParamRefusal s name status ⊎ (RefusesList s name status ⊎ (RefusesTable s name status ⊎ (RefusesFactors s name status ⊎ RefusesBodies s name status)))
 
 -- ---- the answers of the readers alone
 

@@ -9,6 +9,8 @@ use Rattle.param_file.specs.declared.errors.ParamKind.{ParamKind}
 use Rattle.param_file.specs.declared.errors.ParamKind.TheVariants.{Unknown, NoValue, Repeated, NotNumber, OutOfRange, Missing, Clash, Memory as ParamMemory}
 use Rattle.output_schedule.specs.declared.errors.OutputErr.{OutputErr}
 use Rattle.output_schedule.specs.declared.errors.OutputErr.TheVariants.{NotNumber as NoNumber, TooMany as TooManyTimes, Memory as ListMemory}
+use Rattle.expansion_table.specs.declared.errors.ExpErr.{ExpErr}
+use Rattle.expansion_table.specs.declared.errors.ExpErr.TheVariants.{Tag as ExpTag, Length as ExpLength, Spacing, Entry, Short, Memory as ExpMemory}
 use Rattle.ewald_table.specs.declared.errors.TableErr.{TableErr}
 use Rattle.ewald_table.specs.declared.errors.TableErr.TheVariants.{Tag, GridRange, Length, PlaneNotZero, Memory as TableMemory}
 use Rattle.snapshot_blocks.specs.declared.block.BlockKind.{BlockKind}
@@ -20,7 +22,7 @@ use Rattle.snap_file.specs.declared.errors.SnapErr.{SnapErr}
 use Rattle.snap_file.specs.declared.errors.SnapErr.TheVariants.{Block, RepeatedBlock, MissingBlock, HeadLength, HeadTag, Gas, BlockLength, Bodies, Memory as SnapMemory}
 use Rattle.run_session.specs.declared.session.Ended.{Ended}
 use Rattle.gadget.specs.declared.status.Status.{Status}
-use Rattle.gadget.specs.declared.status.Status.TheVariants.{Done, Usage, Memory, ReadFault, WriteFault, ConsoleFault, Absent, TooLong, NotBuilt, Param, Outputs, Table, Snapshot, MomRange, StepRange}
+use Rattle.gadget.specs.declared.status.Status.TheVariants.{Done, Usage, Memory, ReadFault, WriteFault, ConsoleFault, Absent, TooLong, NotBuilt, Param, Outputs, Table, Expansion, Snapshot, MomRange, StepRange}
 
 -- a number after a space
 abbrev pub spaced : ℕ → List ℕ
@@ -64,6 +66,14 @@ table_text (GridRange g) = codes "grid" ++ spaced g
 table_text (Length want got) = codes "length" ++ spaced want ++ spaced got
 table_text (PlaneNotZero index) = codes "plane" ++ spaced index
 table_text TableMemory = codes ""
+
+abbrev pub expansion_text : ExpErr → List ℕ
+expansion_text ExpTag = codes "tag"
+expansion_text (ExpLength want got) = codes "length" ++ spaced want ++ spaced got
+expansion_text (Spacing s) = codes "spacing" ++ spaced s
+expansion_text (Entry index) = codes "entry" ++ spaced index
+expansion_text (Short want got) = codes "short" ++ spaced want ++ spaced got
+expansion_text ExpMemory = codes ""
 
 abbrev pub block_text : ℕ → BlockKind → List ℕ
 block_text at Truncated = codes "truncated at" ++ spaced at
@@ -109,6 +119,7 @@ status_words NotBuilt = codes "not built"
 status_words (Param e) = param_text e
 status_words (Outputs e) = list_text e
 status_words (Table e) = codes "table " ++ table_text e
+status_words (Expansion e) = codes "expansion " ++ expansion_text e
 status_words (Snapshot e) = codes "snapshot " ++ snapshot_fault_text e
 status_words (MomRange tick bin id axis) = counted (codes "momentum range tick") tick ++ counted (codes " bin") bin ++ counted (codes " id") id ++ counted (codes " axis") axis
 status_words (StepRange tick id) = counted (codes "step range tick") tick ++ counted (codes " id") id

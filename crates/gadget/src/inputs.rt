@@ -1,17 +1,22 @@
 // What is read before anything is written.
-ghost use Rattle.std.specs.Prelude.{◌≡◌, ◌⊎◌, false, IsTrue, IfOk, IfErr, OnOk};
+ghost use Rattle.std.specs.Prelude.{◌≡◌, ◌⊎◌, false, IsTrue, IfOk, IfErr, IfSome, OnOk};
+ghost use Rattle.nbody_model.specs.Setups.{last_tick};
+ghost use Rattle.nbody_model.specs.Tables.{IsTable, Reaches};
+ghost use Rattle.param_file.specs.Settings.{setup_of};
 ghost use Rattle.text_words.specs.Comments.{lines_in};
 ghost use Rattle.param_file.specs.Reading.{Spell as SpellParams};
 ghost use Rattle.output_schedule.specs.Times.{Spell as SpellTimes};
 ghost use Rattle.snap_file.specs.Snapshots.{SpellsHead, SpellsSnapshot, IsHeadFault};
 ghost use Rattle.store_io.specs.Causes.{HasCause, read_failed};
 ghost use Rattle.gadget.specs.Reads.{Seen, WasRead, NotRead, status_of};
-ghost use Rattle.gadget.specs.Inputs.{NamesParams, ParamRefusal, ParamAnswer, GivesTimes, NamesTimes, ListRefusal, NamedListRefusal, ListAnswer, NamesBodies, NamesSnapshot, SnapshotRefusal, SnapshotAnswer, Accepts, InputRefusal, RefusesList, RefusesTable, RefusesBodies, asks_unbuilt};
+ghost use Rattle.gadget.specs.Inputs.{NamesParams, ParamRefusal, ParamAnswer, GivesTimes, NamesTimes, ListRefusal, NamedListRefusal, ListAnswer, NamesBodies, NamesSnapshot, SnapshotRefusal, SnapshotAnswer, Accepts, InputRefusal, RefusesList, RefusesTable, RefusesFactors, RefusesBodies, asks_unbuilt};
 
+use crate::factors::load_factors;
 use crate::status::Status;
 use crate::tables::load_corrections;
 use crate::unbuilt::asks_unbuilt;
 use ewald_table::Table;
+use expansion_table::Expansion;
 use output_schedule::{OutputErr, read_outputs};
 use param_file::{ParamErr, ParamKind, Params, read_params};
 use particle_set::BodySet;
@@ -243,21 +248,24 @@ fn load_bodies<S: Store>(alloc: Global, store: &mut S, name: &Text) -> Result<Bo
     bodies_of(alloc, &bytes)
 }
 
-/// What a run is given: its settings, the listed times, the table of corrections and the bodies.
+/// What a run is given: its settings, the listed times, the tables of corrections and of factors, and the bodies.
 #[derive(Drop)]
 pub struct Inputs {
     pub params: Params,
     pub outputs: Vec<u64>,
     pub table: Option<Table>,
+    pub factors: Option<Expansion>,
     pub set: BodySet,
 }
 
-/// Reads a parameter file, then the list, the table and the snapshot that it names.
+/// Reads a parameter file, then the list, the tables and the snapshot that it names.
 pub fn load_inputs<S: Store>(alloc: Global, store: &mut S, name: &Text) -> Result<Inputs, Status>
     ensures tells { S.tells store.new ≡ S.tells store.old }
     ensures files { S.file store.new ≡ S.file store.old }
     ensures ok { IfOk result (λ i. IsTrue (S.tells store.old)
-        → Accepts (S.file store.old) name.now i.params i.outputs.items i.table i.set) }
+        → Accepts (S.file store.old) name.now i.params i.outputs.items i.table i.factors i.set) }
+    ensures sound { IfOk result (λ i. IfSome i.table IsTable) }
+    ensures reach { IfOk result (λ i. IfSome i.factors (λ e. Reaches e (last_tick (setup_of i.params)))) }
     ensures quiet { OnOk result ((S.faults store.new ≡ S.faults store.old) × (S.last store.new ≡ S.last store.old)) }
     ensures err { IfErr result (InputRefusal (record {
       tells = S.tells store.old;
@@ -279,6 +287,10 @@ pub fn load_inputs<S: Store>(alloc: Global, store: &mut S, name: &Text) -> Resul
         Ok(table) => table,
         Err(status) => return Err(status),
     };
+    let factors = match load_factors(alloc, store, &params) {
+        Ok(factors) => factors,
+        Err(status) => return Err(status),
+    };
     let set = match load_bodies(alloc, store, &params.init_cond_file) {
         Ok(set) => set,
         Err(status) => return Err(status),
@@ -287,6 +299,7 @@ pub fn load_inputs<S: Store>(alloc: Global, store: &mut S, name: &Text) -> Resul
         params,
         outputs,
         table,
+        factors,
         set,
     })
 }

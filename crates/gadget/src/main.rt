@@ -3,6 +3,7 @@
 #![tactic(auto)]
 
 mod command;
+mod factors;
 mod inputs;
 mod look;
 mod look_texts;

@@ -1,5 +1,6 @@
 // How a command ended.
 use ewald_table::TableErr;
+use expansion_table::ExpErr;
 use output_schedule::OutputErr;
 use param_file::ParamErr;
 use snap_file::SnapErr;
@@ -29,6 +30,7 @@ pub enum Status {
     Param(ParamErr),
     Outputs(OutputErr),
     Table(TableErr),
+    Expansion(ExpErr),
     Snapshot(SnapErr),
     MomRange {
         tick: u64,
@@ -58,6 +60,7 @@ impl Status {
             Status::Outputs(_) => 11,
             Status::Table(_) => 12,
             Status::Snapshot(_) => 13,
+            Status::Expansion(_) => 16,
             Status::MomRange { .. } => 20,
             Status::StepRange { .. } => 21,
         }

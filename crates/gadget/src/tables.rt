@@ -1,5 +1,6 @@
 // The table of corrections that a parameter file may name.
-ghost use Rattle.std.specs.Prelude.{◌≡◌, IsTrue, IfOk, IfErr, OnOk};
+ghost use Rattle.std.specs.Prelude.{◌≡◌, IsTrue, IfOk, IfErr, IfSome, OnOk};
+ghost use Rattle.nbody_model.specs.Tables.{IsTable};
 ghost use Rattle.ewald_table.specs.TableFile.{Spell as SpellTable};
 ghost use Rattle.gadget.specs.Reads.{Seen};
 ghost use Rattle.gadget.specs.Tables.{GivesTable, NamedTableRefusal, NamesTable, TableAnswer, TableRefusal};
@@ -15,8 +16,10 @@ use store_io::{Store, Text};
 const LONGEST_TABLE: u64 = 4_194_304;
 
 // The table that bytes spell.
+#[tactic(auto, using(crate::proofs::SoundTables::spelled_sound))]
 fn table_of(alloc: Global, bytes: &[u8]) -> Result<Table, Status>
     ensures ok { IfOk result (SpellTable bytes.now) }
+    ensures sound { IfOk result IsTable }
     ensures err { IfErr result (TableAnswer bytes.now) }
 {
     match read_table(alloc, bytes) {
@@ -31,6 +34,7 @@ fn load_table<S: Store>(alloc: Global, store: &mut S, name: &Text) -> Result<Tab
     ensures tells { S.tells store.new ≡ S.tells store.old }
     ensures files { S.file store.new ≡ S.file store.old }
     ensures ok { IfOk result (λ t. IsTrue (S.tells store.old) → NamesTable (S.file store.old) name.now t) }
+    ensures sound { IfOk result IsTable }
     ensures quiet { OnOk result ((S.faults store.new ≡ S.faults store.old) × (S.last store.new ≡ S.last store.old)) }
     ensures err { IfErr result (NamedTableRefusal (record {
       tells = S.tells store.old;
@@ -47,7 +51,7 @@ fn load_table<S: Store>(alloc: Global, store: &mut S, name: &Text) -> Result<Tab
     table_of(alloc, &bytes)
 }
 
-/// Reads the table of corrections, none where no table is named.
+/// Reads the table of corrections, which keeps its limits; none where no table is named.
 pub fn load_corrections<S: Store>(
     alloc: Global,
     store: &mut S,
@@ -57,6 +61,7 @@ pub fn load_corrections<S: Store>(
     ensures files { S.file store.new ≡ S.file store.old }
     ensures ok { IfOk result (λ t. IsTrue (S.tells store.old)
         → GivesTable (S.file store.old) params.now.ewald_table_file t) }
+    ensures sound { IfOk result (λ t. IfSome t IsTable) }
     ensures quiet { OnOk result ((S.faults store.new ≡ S.faults store.old) × (S.last store.new ≡ S.last store.old)) }
     ensures err { IfErr result (TableRefusal (record {
       tells = S.tells store.old;

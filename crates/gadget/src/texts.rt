@@ -2,11 +2,12 @@
 ghost use Rattle.std.specs.Prelude.{◌≡◌, ◌++◌, IfOk, OnOk, codes};
 ghost use Rattle.std.specs.Fmt.{signed_decimal};
 ghost use Rattle.nbody_model.specs.Bodies.{vector};
-ghost use Rattle.gadget.specs.Texts.{spaced, counted, vector_text, kind_text, param_text, list_text, table_text, status_words, status_text, done_text, IsNotMissing};
+ghost use Rattle.gadget.specs.Texts.{spaced, counted, vector_text, kind_text, param_text, list_text, table_text, expansion_text, status_words, status_text, done_text, IsNotMissing};
 
 use crate::snap_texts::{push_snap_err, push_spaced};
 use crate::status::Status;
 use ewald_table::TableErr;
+use expansion_table::ExpErr;
 use fixed_point::Memory;
 use output_schedule::OutputErr;
 use param_file::{ParamErr, ParamKind};
@@ -136,6 +137,32 @@ fn push_table_fault(line: &mut Vec<u8>, err: &TableErr) -> Result<(), Memory>
     push_table_err(line, err)
 }
 
+fn push_expansion_err(line: &mut Vec<u8>, err: &ExpErr) -> Result<(), Memory>
+    ensures { OnOk result (line.new.items ≡ line.old.items ++ expansion_text err.now) }
+{
+    match err {
+        ExpErr::Tag => Ok(line.extend_from_slice(b"tag")?),
+        ExpErr::Length { want, got } => {
+            push_counted(line, b"length", u128::from(*want))?;
+            push_spaced(line, *got)
+        }
+        ExpErr::Spacing { s } => push_counted(line, b"spacing", u128::from(*s)),
+        ExpErr::Entry { index } => push_counted(line, b"entry", u128::from(*index)),
+        ExpErr::Short { want, got } => {
+            push_counted(line, b"short", u128::from(*want))?;
+            push_spaced(line, *got)
+        }
+        ExpErr::Memory => Ok(()),
+    }
+}
+
+fn push_expansion_fault(line: &mut Vec<u8>, err: &ExpErr) -> Result<(), Memory>
+    ensures { OnOk result (line.new.items ≡ line.old.items ++ status_words (Status.Expansion err.now)) }
+{
+    line.extend_from_slice(b"expansion ")?;
+    push_expansion_err(line, err)
+}
+
 // Some words, and a name.
 fn push_name(line: &mut Vec<u8>, words: &[u8], name: &[u8]) -> Result<(), Memory>
     ensures { OnOk result (line.new.items ≡ line.old.items ++ (words.now ++ name.now)) }
@@ -199,6 +226,7 @@ fn push_status(line: &mut Vec<u8>, status: &Status) -> Result<(), Memory>
         Status::Param(err) => push_param_err(line, err),
         Status::Outputs(err) => push_output_err(line, err),
         Status::Table(err) => push_table_fault(line, err),
+        Status::Expansion(err) => push_expansion_fault(line, err),
         Status::Snapshot(err) => push_snapshot_fault(line, err),
         Status::MomRange {
             tick,

@@ -58,13 +58,15 @@ fn run<S: Store>(alloc: Global, store: &mut S, param: &Text) -> Result<Vec<u8>, 
         params,
         outputs,
         table,
+        factors,
         set,
     } = match load_inputs(alloc, store, param) {
         Ok(inputs) => inputs,
         Err(status) => return Err(status),
     };
     let mut forces = ListField::new(alloc, params.setup(), table.as_ref());
-    let ended = run_session::run(alloc, set, &params, &outputs, &mut forces, store);
+    let expansion = factors.as_ref();
+    let ended = run_session::run(alloc, set, &params, expansion, &outputs, &mut forces, store);
     line_of(alloc, ended)
 }
 

@@ -8,9 +8,5 @@ use param_file::Params;
 pub fn asks_unbuilt(params: &Params) -> bool
     ensures { result ≡ asks_unbuilt params.now }
 {
-    params.restart_every != 0
-        || params.low_bin != params.top_bin
-        || params.rank_trace != 0
-        || params.expansion_table_file.is_some()
-        || params.bin_file.is_some()
+    params.restart_every != 0 || params.rank_trace != 0 || params.bin_file.is_some()
 }

@@ -1,3 +1,2 @@
-pub mod Kept
-pub mod Products
+pub mod Ready
 pub mod StandingFiles

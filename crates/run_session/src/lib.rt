@@ -2,9 +2,9 @@
 #![tactic(auto)]
 
 mod files;
+mod kicks;
 mod names;
 mod session;
-mod step;
 
 pub use names::numbered;
 pub use session::{End, Ended, run};

@@ -1,6 +1,6 @@
 use Rattle.std.proofs.Common.{ap}
 use Rattle.param_file.specs.Settings.{ParamsData}
-use Rattle.gadget.proofs.Stages.{table_refused, bodies_refused}
+use Rattle.gadget.proofs.Stages.{table_refused, factors_refused, bodies_refused}
 use Rattle.gadget.proofs.inputs.load_inputs.Goals as goal
 
 pub returns-in-Err-load_corrections-clause-err : goal.returns-in-Err-load_corrections-clause-err
@@ -15,6 +15,22 @@ returns-in-Err-load_corrections-clause-err g c =
     c.in-Ok.ensures.tells c.in-Ok-load_outputs.ensures.tells c.in-Ok.ensures.files c.in-Ok-load_outputs.ensures.files c.in-Ok.ensures.quiet.0 c.in-Ok-load_outputs.ensures.quiet.0
     c.in-Ok.ensures.ok c.in-Ok.ensures.built c.in-Ok-load_outputs.ensures.ok c.in-Err-load_corrections.ensures.err
 
+pub returns-in-Err-load_factors-clause-err : goal.returns-in-Err-load_factors-clause-err
+returns-in-Err-load_factors-clause-err g c =
+    let S = g.S.Store in
+    let start = c.args.store.now in
+    let one = c.load_params.new.store in
+    let two = c.load_outputs.new.store in
+    let three = c.load_corrections.new.store in
+    let four = c.load_factors.new.store in
+    factors_refused (S.tells start) (S.tells one) (S.tells two) (S.tells three) (S.file start) (S.file one) (S.file two) (S.file three)
+    (S.faults start) (S.faults one) (S.faults two) (S.faults three) (S.faults four) (S.last four)
+    c.args.name.now c.in-Ok.params c.in-Ok-load_outputs.outputs.items c.in-Ok-load_corrections.table c.in-Err-load_factors.status
+    c.in-Ok.ensures.tells c.in-Ok-load_outputs.ensures.tells c.in-Ok-load_corrections.ensures.tells
+    c.in-Ok.ensures.files c.in-Ok-load_outputs.ensures.files c.in-Ok-load_corrections.ensures.files
+    c.in-Ok.ensures.quiet.0 c.in-Ok-load_outputs.ensures.quiet.0 c.in-Ok-load_corrections.ensures.quiet.0
+    c.in-Ok.ensures.ok c.in-Ok.ensures.built c.in-Ok-load_outputs.ensures.ok c.in-Ok-load_corrections.ensures.ok c.in-Err-load_factors.ensures.err
+
 pub returns-in-Err-load_bodies-clause-err : goal.returns-in-Err-load_bodies-clause-err
 returns-in-Err-load_bodies-clause-err g c =
     let S = g.S.Store in
@@ -22,12 +38,13 @@ returns-in-Err-load_bodies-clause-err g c =
     let one = c.load_params.new.store in
     let two = c.load_outputs.new.store in
     let three = c.load_corrections.new.store in
-    let four = c.load_bodies.new.store in
-    bodies_refused (S.tells start) (S.tells one) (S.tells two) (S.tells three) (S.file start) (S.file one) (S.file two) (S.file three)
-    (S.faults start) (S.faults one) (S.faults two) (S.faults three) (S.faults four) (S.last four)
-    c.args.name.now c.params.inside.init_cond_file c.in-Ok.params c.in-Ok-load_outputs.outputs.items c.in-Ok-load_corrections.table c.in-Err-load_bodies.status
-    c.in-Ok.ensures.tells c.in-Ok-load_outputs.ensures.tells c.in-Ok-load_corrections.ensures.tells
-    c.in-Ok.ensures.files c.in-Ok-load_outputs.ensures.files c.in-Ok-load_corrections.ensures.files
-    c.in-Ok.ensures.quiet.0 c.in-Ok-load_outputs.ensures.quiet.0 c.in-Ok-load_corrections.ensures.quiet.0
+    let four = c.load_factors.new.store in
+    let five = c.load_bodies.new.store in
+    bodies_refused (S.tells start) (S.tells one) (S.tells two) (S.tells three) (S.tells four) (S.file start) (S.file one) (S.file two) (S.file three) (S.file four)
+    (S.faults start) (S.faults one) (S.faults two) (S.faults three) (S.faults four) (S.faults five) (S.last five)
+    c.args.name.now c.params.inside.init_cond_file c.in-Ok.params c.in-Ok-load_outputs.outputs.items c.in-Ok-load_corrections.table c.in-Ok-load_factors.factors c.in-Err-load_bodies.status
+    c.in-Ok.ensures.tells c.in-Ok-load_outputs.ensures.tells c.in-Ok-load_corrections.ensures.tells c.in-Ok-load_factors.ensures.tells
+    c.in-Ok.ensures.files c.in-Ok-load_outputs.ensures.files c.in-Ok-load_corrections.ensures.files c.in-Ok-load_factors.ensures.files
+    c.in-Ok.ensures.quiet.0 c.in-Ok-load_outputs.ensures.quiet.0 c.in-Ok-load_corrections.ensures.quiet.0 c.in-Ok-load_factors.ensures.quiet.0
     (ap (λ (p : ParamsData). p.init_cond_file) c.params.view_is)
-    c.in-Ok.ensures.ok c.in-Ok.ensures.built c.in-Ok-load_outputs.ensures.ok c.in-Ok-load_corrections.ensures.ok c.in-Err-load_bodies.ensures.err
+    c.in-Ok.ensures.ok c.in-Ok.ensures.built c.in-Ok-load_outputs.ensures.ok c.in-Ok-load_corrections.ensures.ok c.in-Ok-load_factors.ensures.ok c.in-Err-load_bodies.ensures.err

@@ -1,0 +1,97 @@
+// The table of factors that a parameter file may name.
+ghost use Rattle.std.specs.Prelude.{◌≡◌, ◌≤◌, ◌+◌, ◌^◌, IsTrue, IfOk, IfErr, IfSome, OnOk};
+ghost use Rattle.nbody_model.specs.Setups.{last_tick};
+ghost use Rattle.nbody_model.specs.Tables.{Reaches};
+ghost use Rattle.param_file.specs.Settings.{setup_of};
+ghost use Rattle.expansion_table.specs.ExpansionFile.{Spell as SpellFactors};
+ghost use Rattle.gadget.specs.Reads.{Seen};
+ghost use Rattle.gadget.specs.Factors.{FactorsAnswer, FactorsRefusal, GivesFactors, NamedFactorsRefusal, NamesFactors};
+
+use crate::inputs::read_file;
+use crate::status::Status;
+use expansion_table::{ExpErr, Expansion, read_expansion};
+use param_file::Params;
+use std::alloc::Global;
+use store_io::{Store, Text};
+
+/// The longest table, in bytes.
+const LONGEST_TABLE: u64 = 4_194_304;
+
+// The tick at which a run ends.
+#[tactic(auto, using(crate::proofs::LastTicks::last_small))]
+fn last_tick(params: &Params) -> u64
+    ensures { result ≡ last_tick (setup_of params.now) }
+{
+    let setup = params.setup();
+    let step = 1u64 << setup.top_bin;
+    (setup.time_max + step - 1) / step * step
+}
+
+// The table that bytes spell, for a run up to a last tick.
+fn factors_of(alloc: Global, bytes: &[u8], last: u64) -> Result<Expansion, Status>
+    ensures ok { IfOk result (SpellFactors bytes.now last) }
+    ensures reach { IfOk result (λ t. Reaches t last) }
+    ensures err { IfErr result (FactorsAnswer bytes.now last) }
+{
+    match read_expansion(alloc, bytes, last) {
+        Ok(table) => Ok(table),
+        Err(ExpErr::Memory) => Err(Status::Memory),
+        Err(err) => Err(Status::Expansion(err)),
+    }
+}
+
+// Reads a table.
+fn load_table<S: Store>(
+    alloc: Global,
+    store: &mut S,
+    name: &Text,
+    last: u64,
+) -> Result<Expansion, Status>
+    ensures tells { S.tells store.new ≡ S.tells store.old }
+    ensures files { S.file store.new ≡ S.file store.old }
+    ensures ok { IfOk result (λ t. IsTrue (S.tells store.old) → NamesFactors (S.file store.old) last name.now t) }
+    ensures reach { IfOk result (λ t. Reaches t last) }
+    ensures quiet { OnOk result ((S.faults store.new ≡ S.faults store.old) × (S.last store.new ≡ S.last store.old)) }
+    ensures err { IfErr result (NamedFactorsRefusal (record {
+      tells = S.tells store.old;
+      files = S.file store.old;
+      faults = S.faults store.old;
+      faults_new = S.faults store.new;
+      last = S.last store.new;
+    }) last name.now) }
+{
+    let bytes = match read_file(alloc, store, name, LONGEST_TABLE) {
+        Ok(bytes) => bytes,
+        Err(status) => return Err(status),
+    };
+    factors_of(alloc, &bytes, last)
+}
+
+/// Reads the table of factors, which reaches the last tick of the run; none where no table is named.
+pub fn load_factors<S: Store>(
+    alloc: Global,
+    store: &mut S,
+    params: &Params,
+) -> Result<Option<Expansion>, Status>
+    ensures tells { S.tells store.new ≡ S.tells store.old }
+    ensures files { S.file store.new ≡ S.file store.old }
+    ensures ok { IfOk result (λ t. IsTrue (S.tells store.old)
+        → GivesFactors (S.file store.old) (last_tick (setup_of params.now)) params.now.expansion_table_file t) }
+    ensures reach { IfOk result (λ t. IfSome t (λ e. Reaches e (last_tick (setup_of params.now)))) }
+    ensures quiet { OnOk result ((S.faults store.new ≡ S.faults store.old) × (S.last store.new ≡ S.last store.old)) }
+    ensures err { IfErr result (FactorsRefusal (record {
+      tells = S.tells store.old;
+      files = S.file store.old;
+      faults = S.faults store.old;
+      faults_new = S.faults store.new;
+      last = S.last store.new;
+    }) (last_tick (setup_of params.now)) params.now.expansion_table_file) }
+{
+    match &params.expansion_table_file {
+        Some(name) => match load_table(alloc, store, name, last_tick(params)) {
+            Ok(table) => Ok(Some(table)),
+            Err(status) => Err(status),
+        },
+        None => Ok(None),
+    }
+}
