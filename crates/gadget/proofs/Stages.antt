@@ -3,23 +3,23 @@ use Rattle.std.proofs.Common.{◌≡◌, ℕ, Bool, false, IsTrue, List, Option,
 use Rattle.store_io.specs.Causes.{Call}
 use Rattle.store_io.specs.Files.{Files}
 use Rattle.nbody_model.specs.Setups.{last_tick}
-use Rattle.nbody_model.specs.Tables.{TableData, ExpansionData}
+use Rattle.nbody_model.specs.Tables.{TableData}
 use Rattle.param_file.specs.Settings.{ParamsData, setup_of}
 use Rattle.gadget.specs.declared.status.Status.{Status}
 use Rattle.gadget.specs.Reads.{Seen}
 use Rattle.gadget.specs.Tables.{GivesTable, TableRefusal}
-use Rattle.gadget.specs.Factors.{GivesFactors, FactorsRefusal}
-use Rattle.gadget.specs.Inputs.{NamesParams, GivesTimes, SnapshotRefusal, InputRefusal, asks_unbuilt}
+use Rattle.gadget.specs.Factors.{FactorsRefusal}
+use Rattle.gadget.specs.Inputs.{NamesParams, GivesTimes, FirstRefusal, asks_unbuilt}
 
 -- what is seen from a stage on
-abbrev seen : Bool → Files → ℕ → ℕ → Option Call → Seen
+abbrev pub seen : Bool → Files → ℕ → ℕ → Option Call → Seen
 seen tells files faults now last = record { tells = tells; files = files; faults = faults; faults_new = now; last = last }
 
-seen_is : (t1 t : Bool) (d1 d : Files) (n1 n now : ℕ) (last : Option Call) → t1 ≡ t → d1 ≡ d → n1 ≡ n → seen t1 d1 n1 now last ≡ seen t d n now last
+pub seen_is : (t1 t : Bool) (d1 d : Files) (n1 n now : ℕ) (last : Option Call) → t1 ≡ t → d1 ≡ d → n1 ≡ n → seen t1 d1 n1 now last ≡ seen t d n now last
 seen_is t1 t d1 d n1 n now last a b c = λ i. record { tells = a i; files = b i; faults = c i; faults_new = now; last = last }
 
 -- what holds of the files at a stage holds of them at the first
-held : (P : Files → Type 0) (t1 t : Bool) (d1 d : Files) → t1 ≡ t → d1 ≡ d → (IsTrue t1 → P d1) → IsTrue t → P d
+pub held : (P : Files → Type 0) (t1 t : Bool) (d1 d : Files) → t1 ≡ t → d1 ≡ d → (IsTrue t1 → P d1) → IsTrue t → P d
 held P t1 t d1 d a b h k = subst P b (h (subst (λ (b : Bool). IsTrue b) (sym a) k))
 
 pub table_refused : (t t1 t2 : Bool) (d d1 d2 : Files) (n n1 n2 now : ℕ) (last : Option Call) (name : List ℕ) (p : ParamsData) (times : List ℕ) (status : Status)
@@ -27,7 +27,7 @@ pub table_refused : (t t1 t2 : Bool) (d d1 d2 : Files) (n n1 n2 now : ℕ) (last
     → (IsTrue t → NamesParams d name p) → asks_unbuilt p ≡ false
     → (IsTrue t1 → GivesTimes d1 p.output_list_filename times)
     → TableRefusal (seen t2 d2 n2 now last) p.ewald_table_file status
-    → InputRefusal (seen t d n now last) name status
+    → FirstRefusal (seen t d n now last) name status
 table_refused t t1 t2 d d1 d2 n n1 n2 now last name p times status a1 a2 b1 b2 c1 c2 named built listed refused =
     inr (inr (inl (record {
       params = p;
@@ -44,9 +44,9 @@ pub factors_refused : (t t1 t2 t3 : Bool) (d d1 d2 d3 : Files) (n n1 n2 n3 now :
     → (IsTrue t1 → GivesTimes d1 p.output_list_filename times)
     → (IsTrue t2 → GivesTable d2 p.ewald_table_file table)
     → FactorsRefusal (seen t3 d3 n3 now last) (last_tick (setup_of p)) p.expansion_table_file status
-    → InputRefusal (seen t d n now last) name status
+    → FirstRefusal (seen t d n now last) name status
 factors_refused t t1 t2 t3 d d1 d2 d3 n n1 n2 n3 now last name p times table status a1 a2 a3 b1 b2 b3 c1 c2 c3 named built listed corrected refused =
-    inr (inr (inr (inl (record {
+    inr (inr (inr (record {
       params = p;
       named = named;
       built = built;
@@ -55,27 +55,4 @@ factors_refused t t1 t2 t3 d d1 d2 d3 n n1 n2 n3 now last name p times table sta
       table = table;
       corrected = held (λ F. GivesTable F p.ewald_table_file table) t2 t d2 d (a2 ∙ a1) (b2 ∙ b1) corrected;
       refused = subst (λ (s : Seen). FactorsRefusal s (last_tick (setup_of p)) p.expansion_table_file status) (seen_is t3 t d3 d n3 n now last (a3 ∙ a2 ∙ a1) (b3 ∙ b2 ∙ b1) (c3 ∙ c2 ∙ c1)) refused;
-    }))))
-
-pub bodies_refused : (t t1 t2 t3 t4 : Bool) (d d1 d2 d3 d4 : Files) (n n1 n2 n3 n4 now : ℕ) (last : Option Call) (name snapshot : List ℕ) (p : ParamsData) (times : List ℕ) (table : Option TableData) (factors : Option ExpansionData) (status : Status)
-    → t1 ≡ t → t2 ≡ t1 → t3 ≡ t2 → t4 ≡ t3 → d1 ≡ d → d2 ≡ d1 → d3 ≡ d2 → d4 ≡ d3 → n1 ≡ n → n2 ≡ n1 → n3 ≡ n2 → n4 ≡ n3 → snapshot ≡ p.init_cond_file
-    → (IsTrue t → NamesParams d name p) → asks_unbuilt p ≡ false
-    → (IsTrue t1 → GivesTimes d1 p.output_list_filename times)
-    → (IsTrue t2 → GivesTable d2 p.ewald_table_file table)
-    → (IsTrue t3 → GivesFactors d3 (last_tick (setup_of p)) p.expansion_table_file factors)
-    → SnapshotRefusal (seen t4 d4 n4 now last) snapshot status
-    → InputRefusal (seen t d n now last) name status
-bodies_refused t t1 t2 t3 t4 d d1 d2 d3 d4 n n1 n2 n3 n4 now last name snapshot p times table factors status a1 a2 a3 a4 b1 b2 b3 b4 c1 c2 c3 c4 named params built listed corrected expanded refused =
-    let at_file = subst (λ (m : List ℕ). SnapshotRefusal (seen t4 d4 n4 now last) m status) named refused in
-    inr (inr (inr (inr (record {
-      params = p;
-      named = params;
-      built = built;
-      times = times;
-      listed = held (λ F. GivesTimes F p.output_list_filename times) t1 t d1 d a1 b1 listed;
-      table = table;
-      corrected = held (λ F. GivesTable F p.ewald_table_file table) t2 t d2 d (a2 ∙ a1) (b2 ∙ b1) corrected;
-      factors = factors;
-      expanded = held (λ F. GivesFactors F (last_tick (setup_of p)) p.expansion_table_file factors) t3 t d3 d (a3 ∙ a2 ∙ a1) (b3 ∙ b2 ∙ b1) expanded;
-      refused = subst (λ (s : Seen). SnapshotRefusal s p.init_cond_file status) (seen_is t4 t d4 d n4 n now last (a4 ∙ a3 ∙ a2 ∙ a1) (b4 ∙ b3 ∙ b2 ∙ b1) (c4 ∙ c3 ∙ c2 ∙ c1)) at_file;
-    }))))
+    })))

@@ -6,12 +6,13 @@ use Rattle.store_io.specs.Names.{is_name, is_visible}
 use Rattle.text_words.specs.declared.number.NumErr.{NumErr}
 use Rattle.text_words.specs.Numbers.{whole_number}
 
--- nothing that is known; a command that isn't built; a run by a parameter file on so many ranks; what such a run
--- would read; or what a snapshot holds
+-- nothing that is known; a command that isn't built; a run by a parameter file on so many ranks; a run that goes on from
+-- a restart file besides; what a run would read; or what a snapshot holds
 pub data Asked : Type 0 where
   nothing : Asked
   unbuilt : Asked
   run : List ℕ → ℕ → Asked
+  resume : List ℕ → List ℕ → ℕ → Asked
   check : List ℕ → Asked
   show : List ℕ → Asked
 
@@ -31,6 +32,10 @@ abbrev pub run_on : List ℕ → Option ℕ → Asked
 run_on param (Some ranks) = run param ranks
 run_on param None = nothing
 
+abbrev pub resume_on : List ℕ → List ℕ → Option ℕ → Asked
+resume_on param restart (Some ranks) = resume param restart ranks
+resume_on param restart None = nothing
+
 abbrev pub unbuilt_if : Bool → Asked
 unbuilt_if well_formed = if well_formed then unbuilt else nothing
 
@@ -49,7 +54,7 @@ asked_of_three word param ranks =
 
 abbrev pub asked_of_four : List ℕ → List ℕ → List ℕ → List ℕ → Asked
 asked_of_four word a b c =
-    if bytes_eq word (codes "resume") then unbuilt_if (is_name a && (is_numbered_name b && is_some (number_in 1 256 c)))
+    if bytes_eq word (codes "resume") then (if is_name a && is_numbered_name b then resume_on a b (number_in 1 256 c) else nothing)
     else (if bytes_eq word (codes "make") then unbuilt_if (is_some (number_in 0 1048576 a) && (is_some (number_in 0 (2 ^ 64 - 1) b) && is_visible_name 180 c)) else nothing)
 
 -- what the words ask for

@@ -1,20 +1,18 @@
--- What is read before anything is written, and why it isn't accepted.
-use Rattle.std.specs.Prelude.{◌≡◌, ◌⊎◌, ℕ, Bool, true, false, not, ◌||◌, ◌==◌, IsTrue, List, [], Option, Some, None, is_some}
+-- What is read before anything is written, but for the bodies: the parameter file, the list and the tables that it names,
+-- and why one of them isn't accepted.
+use Rattle.std.specs.Prelude.{◌≡◌, ◌≢◌, ◌⊎◌, ℕ, Bool, true, false, not, ◌==◌, IsTrue, List, [], Option, Some, None}
 use Rattle.store_io.specs.Files.{Files}
 use Rattle.text_words.specs.Comments.{lines_in}
-use Rattle.nbody_model.specs.Bodies.{BodyData}
 use Rattle.nbody_model.specs.Setups.{last_tick}
 use Rattle.nbody_model.specs.Tables.{TableData, ExpansionData}
 use Rattle.param_file.specs.Settings.{ParamsData, setup_of}
 use Rattle.param_file.specs.Reading.{Spell as SpellParams, IsFirstFault as IsParamFault}
 use Rattle.output_schedule.specs.Times.{Spell as SpellTimes, IsFirstFault as IsListFault}
-use Rattle.snap_file.specs.Snapshots.{SpellsHead, SpellsSnapshot, IsSnapshotFault}
-use Rattle.snap_file.specs.declared.head.Head.{Head}
 use Rattle.param_file.specs.declared.errors.ParamErr.{ParamErr}
 use Rattle.output_schedule.specs.declared.errors.OutputErr.{OutputErr}
-use Rattle.snap_file.specs.declared.errors.SnapErr.{SnapErr}
+use Rattle.output_schedule.specs.declared.errors.OutputErr.TheVariants.{Memory as NoRoom}
 use Rattle.gadget.specs.declared.status.Status.{Status}
-use Rattle.gadget.specs.declared.status.Status.TheVariants.{Memory, NotBuilt, Param, Outputs, Snapshot}
+use Rattle.gadget.specs.declared.status.Status.TheVariants.{Memory, NotBuilt, Param, Outputs}
 use Rattle.gadget.specs.Reads.{Seen, WasRead, NotRead}
 use Rattle.gadget.specs.Tables.{GivesTable, TableRefusal}
 use Rattle.gadget.specs.Factors.{GivesFactors, FactorsRefusal}
@@ -25,9 +23,6 @@ longest_parameters = 65536
 
 abbrev pub longest_list : ℕ
 longest_list = 1048576
-
-abbrev pub longest_snapshot : ℕ
-longest_snapshot = 268435456
 
 -- ---- the parameter file
 
@@ -43,10 +38,9 @@ pub record HasParamFault (files : Files) (name : List ℕ) (err : ParamErr) : Ty
   pub read : WasRead files name longest_parameters bytes
   pub fault : IsParamFault (lines_in bytes) err.line err.kind
 
--- these settings ask for what isn't built
+-- these settings ask for what isn't built: a trace of the ranks
 abbrev pub asks_unbuilt : ParamsData → Bool
-asks_unbuilt p =
-    not (p.restart_every == 0) || not (p.rank_trace == 0) || is_some p.bin_file
+asks_unbuilt p = not (p.rank_trace == 0)
 
 -- the file of this name spells settings that ask for what isn't built
 pub record AsksUnbuilt (files : Files) (name : List ℕ) : Type 0 where
@@ -79,9 +73,9 @@ pub record HasListFault (files : Files) (name : List ℕ) (err : OutputErr) : Ty
   pub read : WasRead files name longest_list bytes
   pub fault : IsListFault (lines_in bytes) err
 
--- why an output list of this name isn't accepted
+-- why an output list of this name isn't accepted; want of memory is no error of the file
 abbrev pub NamedListRefusal : Seen → List ℕ → Status → Type 0
-NamedListRefusal s name (Outputs err) = IsTrue s.tells → HasListFault s.files name err
+NamedListRefusal s name (Outputs err) = (err ≢ NoRoom) × (IsTrue s.tells → HasListFault s.files name err)
 NamedListRefusal s name status = NotRead s name longest_list status
 
 -- why the list that may be named isn't accepted
@@ -89,41 +83,16 @@ abbrev pub ListRefusal : Seen → Option (List ℕ) → Status → Type 0
 ListRefusal s None status = ⊥
 ListRefusal s (Some name) status = NamedListRefusal s name status
 
--- ---- the snapshot
+-- ---- all of them
 
--- the file of this name is a snapshot of these bodies
-pub record NamesBodies (files : Files) (name : List ℕ) (B : List BodyData) : Type 0 where
-  pub bytes : List ℕ
-  pub read : WasRead files name longest_snapshot bytes
-  pub spelled : SpellsSnapshot bytes B
-
--- the file of this name is no snapshot, and this is its first fault
-pub record HasSnapshotFault (files : Files) (name : List ℕ) (err : SnapErr) : Type 0 where
-  pub bytes : List ℕ
-  pub read : WasRead files name longest_snapshot bytes
-  pub fault : IsSnapshotFault bytes err
-
--- the file of this name is a snapshot of these bodies with this head
-pub record NamesSnapshot (files : Files) (name : List ℕ) (head : Head) (B : List BodyData) : Type 0 where
-  pub bytes : List ℕ
-  pub read : WasRead files name longest_snapshot bytes
-  pub head_is : SpellsHead bytes head
-  pub spelled : SpellsSnapshot bytes B
-
--- why a snapshot isn't accepted
-abbrev pub SnapshotRefusal : Seen → List ℕ → Status → Type 0
-SnapshotRefusal s name (Snapshot err) = IsTrue s.tells → HasSnapshotFault s.files name err
-SnapshotRefusal s name status = NotRead s name longest_snapshot status
-
--- ---- all inputs of a run
-
--- the parameter file of this name, and the list, the tables and the snapshot that it names, are these
-pub record Accepts (files : Files) (name : List ℕ) (p : ParamsData) (times : List ℕ) (table : Option TableData) (factors : Option ExpansionData) (B : List BodyData) : Type 0 where
+-- the parameter file of this name, which asks for nothing that isn't built, and the list and the tables that it names are
+-- these
+pub record Accepts (files : Files) (name : List ℕ) (p : ParamsData) (times : List ℕ) (table : Option TableData) (factors : Option ExpansionData) : Type 0 where
   pub params : NamesParams files name p
+  pub built : asks_unbuilt p ≡ false
   pub listed : GivesTimes files p.output_list_filename times
   pub corrected : GivesTable files p.ewald_table_file table
   pub expanded : GivesFactors files (last_tick (setup_of p)) p.expansion_table_file factors
-  pub bodies : NamesBodies files p.init_cond_file B
 
 -- the list isn't accepted, but the parameter file is
 pub record RefusesList (s : Seen) (name : List ℕ) (status : Status) : Type 0 where
@@ -152,22 +121,9 @@ pub record RefusesFactors (s : Seen) (name : List ℕ) (status : Status) : Type 
   pub corrected : IsTrue s.tells → GivesTable s.files params.ewald_table_file table
   pub refused : FactorsRefusal s (last_tick (setup_of params)) params.expansion_table_file status
 
--- the snapshot isn't accepted, but the parameter file, the list and the tables are
-pub record RefusesBodies (s : Seen) (name : List ℕ) (status : Status) : Type 0 where
-  pub params : ParamsData
-  pub named : IsTrue s.tells → NamesParams s.files name params
-  pub built : asks_unbuilt params ≡ false
-  pub times : List ℕ
-  pub listed : IsTrue s.tells → GivesTimes s.files params.output_list_filename times
-  pub table : Option TableData
-  pub corrected : IsTrue s.tells → GivesTable s.files params.ewald_table_file table
-  pub factors : Option ExpansionData
-  pub expanded : IsTrue s.tells → GivesFactors s.files (last_tick (setup_of params)) params.expansion_table_file factors
-  pub refused : SnapshotRefusal s params.init_cond_file status
-
--- the first refusal, in the order of reading: parameter file, list, table of corrections, table of factors, snapshot
-abbrev pub InputRefusal : Seen → List ℕ → Status → Type 0
-InputRefusal s name status = ParamRefusal s name status ⊎ (RefusesList s name status ⊎ (RefusesTable s name status ⊎ (RefusesFactors s name status ⊎ RefusesBodies s name status)))
+-- the first refusal, in the order of reading: parameter file, list, table of corrections, table of factors
+abbrev pub FirstRefusal : Seen → List ℕ → Status → Type 0
+FirstRefusal s name status = ParamRefusal s name status ⊎ (RefusesList s name status ⊎ (RefusesTable s name status ⊎ RefusesFactors s name status))
 
 -- ---- the answers of the readers alone
 
@@ -177,11 +133,6 @@ ParamAnswer bytes Memory = Unit {0}
 ParamAnswer bytes status = ⊥
 
 abbrev pub ListAnswer : List ℕ → Status → Type 0
-ListAnswer bytes (Outputs err) = IsListFault (lines_in bytes) err
+ListAnswer bytes (Outputs err) = (err ≢ NoRoom) × IsListFault (lines_in bytes) err
 ListAnswer bytes Memory = Unit {0}
 ListAnswer bytes status = ⊥
-
-abbrev pub SnapshotAnswer : List ℕ → Status → Type 0
-SnapshotAnswer bytes (Snapshot err) = IsSnapshotFault bytes err
-SnapshotAnswer bytes Memory = Unit {0}
-SnapshotAnswer bytes status = ⊥

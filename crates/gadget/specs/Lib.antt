@@ -1,8 +1,14 @@
 pub mod Answers
 pub mod Asks
+pub mod Begins
+pub mod Codes
 pub mod Commands
 pub mod Factors
 pub mod Inputs
+pub mod Outcomes
 pub mod Reads
+pub mod Restarts
+pub mod Snapshots
 pub mod Tables
 pub mod Texts
+pub mod Decided

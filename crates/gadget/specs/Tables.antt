@@ -1,9 +1,10 @@
 -- The tables that a parameter file may name, and why one isn't accepted.
-use Rattle.std.specs.Prelude.{◌≡◌, ℕ, IsTrue, List, Option, Some, None}
+use Rattle.std.specs.Prelude.{◌≡◌, ◌≢◌, ℕ, IsTrue, List, Option, Some, None}
 use Rattle.store_io.specs.Files.{Files}
 use Rattle.nbody_model.specs.Tables.{TableData}
 use Rattle.ewald_table.specs.TableFile.{Spell, IsFirstFault}
 use Rattle.ewald_table.specs.declared.errors.TableErr.{TableErr}
+use Rattle.ewald_table.specs.declared.errors.TableErr.TheVariants.{Memory as NoRoom}
 use Rattle.gadget.specs.declared.status.Status.{Status}
 use Rattle.gadget.specs.declared.status.Status.TheVariants.{Memory, Table}
 use Rattle.gadget.specs.Reads.{Seen, WasRead, NotRead}
@@ -30,9 +31,9 @@ pub record HasTableFault (files : Files) (name : List ℕ) (err : TableErr) : Ty
   pub read : WasRead files name longest_table bytes
   pub fault : IsFirstFault bytes err
 
--- why a table of this name isn't accepted
+-- why a table of this name isn't accepted; want of memory is no error of the file
 abbrev pub NamedTableRefusal : Seen → List ℕ → Status → Type 0
-NamedTableRefusal s name (Table err) = IsTrue s.tells → HasTableFault s.files name err
+NamedTableRefusal s name (Table err) = (err ≢ NoRoom) × (IsTrue s.tells → HasTableFault s.files name err)
 NamedTableRefusal s name status = NotRead s name longest_table status
 
 -- why the table that may be named isn't accepted
@@ -42,6 +43,6 @@ TableRefusal s (Some name) status = NamedTableRefusal s name status
 
 -- the answers of the reader alone
 abbrev pub TableAnswer : List ℕ → Status → Type 0
-TableAnswer bytes (Table err) = IsFirstFault bytes err
+TableAnswer bytes (Table err) = (err ≢ NoRoom) × IsFirstFault bytes err
 TableAnswer bytes Memory = Unit {0}
 TableAnswer bytes status = ⊥

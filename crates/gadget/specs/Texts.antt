@@ -1,5 +1,5 @@
 -- What is printed: one line or a few, numbers in decimal, each line ended by LF.
-use Rattle.std.specs.Prelude.{ℕ, List, ◌++◌, length, sum_by, slice_index, codes, decimal}
+use Rattle.std.specs.Prelude.{ℕ, ◌*◌, ◌^◌, ◌==◌, List, ◌++◌, length, sum_by, slice_index, codes, decimal, if◌then◌else◌}
 use Rattle.std.specs.Fmt.{signed_decimal}
 use Rattle.fixed_point.specs.declared.V3.{V3}
 use Rattle.nbody_model.specs.Bodies.{BodyData, total, vector}
@@ -20,9 +20,11 @@ use Rattle.particle_set.specs.declared.row.SetErr.TheVariants.{TooMany, Repeated
 use Rattle.snap_file.specs.declared.head.Head.{Head}
 use Rattle.snap_file.specs.declared.errors.SnapErr.{SnapErr}
 use Rattle.snap_file.specs.declared.errors.SnapErr.TheVariants.{Block, RepeatedBlock, MissingBlock, HeadLength, HeadTag, Gas, BlockLength, Bodies, Memory as SnapMemory}
-use Rattle.run_session.specs.declared.session.Ended.{Ended}
+use Rattle.restart_files.specs.declared.errors.RestartErr.{RestartErr}
+use Rattle.restart_files.specs.declared.errors.RestartErr.TheVariants.{Tag as RestartTag, Length as RestartLength, Version, Field, EndMark, Bodies as RestartBodies, Memory as RestartMemory}
+use Rattle.run_session.specs.declared.ended.Ended.{Ended}
 use Rattle.gadget.specs.declared.status.Status.{Status}
-use Rattle.gadget.specs.declared.status.Status.TheVariants.{Done, Usage, Memory, ReadFault, WriteFault, ConsoleFault, Absent, TooLong, NotBuilt, Param, Outputs, Table, Expansion, Snapshot, MomRange, StepRange}
+use Rattle.gadget.specs.declared.status.Status.TheVariants.{Done, Stopped, Usage, Memory, ReadFault, WriteFault, ConsoleFault, Absent, TooLong, NotBuilt, Param, Outputs, Table, Expansion, Snapshot, Restart, Differs, MomRange, StepRange}
 
 -- a number after a space
 abbrev pub spaced : ℕ → List ℕ
@@ -101,13 +103,24 @@ snapshot_fault_text (BlockLength name want got) = codes "block length" ++ codes 
 snapshot_fault_text (Bodies e) = set_text e
 snapshot_fault_text SnapMemory = codes ""
 
+abbrev pub restart_fault_text : RestartErr → List ℕ
+restart_fault_text RestartTag = codes "tag"
+restart_fault_text (RestartLength want got) = codes "length" ++ spaced want ++ spaced got
+restart_fault_text (Version v) = codes "version" ++ spaced v
+restart_fault_text (Field at) = codes "field at" ++ spaced at
+restart_fault_text EndMark = codes "end mark"
+restart_fault_text (RestartBodies e) = set_text e
+restart_fault_text RestartMemory = codes ""
+
 -- ---- the line of a status
 
 abbrev pub usage_text : List ℕ
 usage_text = codes "usage: gadget run PARAM RANKS | resume PARAM RESTART RANKS | check PARAM | show SNAP | make COUNT SEED NAME"
 
+-- what is done, or was stopped, is told by a line of its own
 abbrev pub status_words : Status → List ℕ
 status_words Done = codes ""
+status_words (Stopped steps tick) = codes ""
 status_words Usage = usage_text
 status_words Memory = codes "no memory"
 status_words (ReadFault name) = codes "read fault " ++ name
@@ -121,6 +134,8 @@ status_words (Outputs e) = list_text e
 status_words (Table e) = codes "table " ++ table_text e
 status_words (Expansion e) = codes "expansion " ++ expansion_text e
 status_words (Snapshot e) = codes "snapshot " ++ snapshot_fault_text e
+status_words (Restart e) = codes "restart " ++ restart_fault_text e
+status_words (Differs name) = codes "differs " ++ name_of name
 status_words (MomRange tick bin id axis) = counted (codes "momentum range tick") tick ++ counted (codes " bin") bin ++ counted (codes " id") id ++ counted (codes " axis") axis
 status_words (StepRange tick id) = counted (codes "step range tick") tick ++ counted (codes " id") id
 
@@ -149,3 +164,12 @@ abbrev pub done_text : Ended → List ℕ
 done_text run =
     counted (codes "done tick") run.tick ++ counted (codes " steps") run.steps ++ counted (codes " snapshots") run.snapshots ++
     counted (codes " kicks") run.kicks ++ counted (codes " interactions") run.interactions ++ codes " momentum" ++ vector_text (vector run.momentum) ++ codes "\n"
+
+-- how many base steps were made; and the tick, where it is no end of a base step
+abbrev pub stop_words : ℕ → Ended → List ℕ
+stop_words top run =
+    if run.tick == run.steps * 2 ^ top then counted (codes "stopped steps") run.steps
+    else counted (codes "stopped steps") run.steps ++ counted (codes " tick") run.tick
+
+abbrev pub stop_text : ℕ → Ended → List ℕ
+stop_text top run = stop_words top run ++ codes "\n"

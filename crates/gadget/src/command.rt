@@ -4,7 +4,7 @@ ghost use Rattle.std.specs.Str.{bytes_eq};
 ghost use Rattle.std.specs.List.{list_all};
 ghost use Rattle.store_io.specs.Names.{is_visible, is_name};
 ghost use Rattle.gadget.specs.Asks.{Means};
-ghost use Rattle.gadget.specs.Commands.{asked, asked_of_two, asked_of_three, asked_of_four, is_visible_name, number_in, run_on, unbuilt_if};
+ghost use Rattle.gadget.specs.Commands.{asked, asked_of_two, asked_of_three, asked_of_four, is_visible_name, number_in, resume_on, run_on, unbuilt_if};
 
 use store_io::Text;
 use text_words::read_whole_number;
@@ -13,9 +13,21 @@ use text_words::read_whole_number;
 #[derive(Clone, Copy)]
 pub enum Command<'a> {
     Nothing,
-    Run { param: &'a Text, ranks: u64 },
-    Check { param: &'a Text },
-    Show { snapshot: &'a Text },
+    Run {
+        param: &'a Text,
+        ranks: u64,
+    },
+    Resume {
+        param: &'a Text,
+        restart: &'a Text,
+        ranks: u64,
+    },
+    Check {
+        param: &'a Text,
+    },
+    Show {
+        snapshot: &'a Text,
+    },
     Unbuilt,
 }
 
@@ -110,14 +122,28 @@ fn of_three<'a>(word: &Text, param: &'a Text, ranks: &Text) -> Command<'a>
     }
 }
 
-fn of_four<'a>(word: &Text, a: &Text, b: &Text, c: &Text) -> Command<'a>
+// A run that goes on from a restart file, where there is a number of ranks.
+fn resume_on<'a>(param: &'a Text, restart: &'a Text, ranks: &Text) -> Command<'a>
+    ensures { Means result (resume_on param.now restart.now (number_in 1 256 ranks.now)) }
+{
+    match number_in(ranks, 1, MOST_RANKS) {
+        Some(ranks) => Command::Resume {
+            param,
+            restart,
+            ranks,
+        },
+        None => Command::Nothing,
+    }
+}
+
+fn of_four<'a>(word: &Text, a: &'a Text, b: &'a Text, c: &Text) -> Command<'a>
     ensures { Means result (asked_of_four word.now a.now b.now c.now) }
 {
     if is_word(word, b"resume") {
-        return unbuilt_if(
-            a.is_name()
-                && (is_visible_name(b, LONGEST_NUMBERED) && number_in(c, 1, MOST_RANKS).is_some()),
-        );
+        if a.is_name() && is_visible_name(b, LONGEST_NUMBERED) {
+            return resume_on(a, b, c);
+        }
+        return Command::Nothing;
     }
     if is_word(word, b"make") {
         return unbuilt_if(

@@ -49,6 +49,7 @@ fn load_table<S: Store>(
 ) -> Result<Expansion, Status>
     ensures tells { S.tells store.new ≡ S.tells store.old }
     ensures files { S.file store.new ≡ S.file store.old }
+    ensures closed { S.closed store.new ≡ S.closed store.old }
     ensures ok { IfOk result (λ t. IsTrue (S.tells store.old) → NamesFactors (S.file store.old) last name.now t) }
     ensures reach { IfOk result (λ t. Reaches t last) }
     ensures quiet { OnOk result ((S.faults store.new ≡ S.faults store.old) × (S.last store.new ≡ S.last store.old)) }
@@ -75,6 +76,7 @@ pub fn load_factors<S: Store>(
 ) -> Result<Option<Expansion>, Status>
     ensures tells { S.tells store.new ≡ S.tells store.old }
     ensures files { S.file store.new ≡ S.file store.old }
+    ensures closed { S.closed store.new ≡ S.closed store.old }
     ensures ok { IfOk result (λ t. IsTrue (S.tells store.old)
         → GivesFactors (S.file store.old) (last_tick (setup_of params.now)) params.now.expansion_table_file t) }
     ensures reach { IfOk result (λ t. IfSome t (λ e. Reaches e (last_tick (setup_of params.now)))) }

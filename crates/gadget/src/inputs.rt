@@ -1,4 +1,4 @@
-// What is read before anything is written.
+// What is read before anything is written, but for the bodies.
 ghost use Rattle.std.specs.Prelude.{◌≡◌, ◌⊎◌, false, IsTrue, IfOk, IfErr, IfSome, OnOk};
 ghost use Rattle.nbody_model.specs.Setups.{last_tick};
 ghost use Rattle.nbody_model.specs.Tables.{IsTable, Reaches};
@@ -6,10 +6,9 @@ ghost use Rattle.param_file.specs.Settings.{setup_of};
 ghost use Rattle.text_words.specs.Comments.{lines_in};
 ghost use Rattle.param_file.specs.Reading.{Spell as SpellParams};
 ghost use Rattle.output_schedule.specs.Times.{Spell as SpellTimes};
-ghost use Rattle.snap_file.specs.Snapshots.{SpellsHead, SpellsSnapshot, IsHeadFault};
 ghost use Rattle.store_io.specs.Causes.{HasCause, read_failed};
 ghost use Rattle.gadget.specs.Reads.{Seen, WasRead, NotRead, status_of};
-ghost use Rattle.gadget.specs.Inputs.{NamesParams, ParamRefusal, ParamAnswer, GivesTimes, NamesTimes, ListRefusal, NamedListRefusal, ListAnswer, NamesBodies, NamesSnapshot, SnapshotRefusal, SnapshotAnswer, Accepts, InputRefusal, RefusesList, RefusesTable, RefusesFactors, RefusesBodies, asks_unbuilt};
+ghost use Rattle.gadget.specs.Inputs.{NamesParams, ParamRefusal, ParamAnswer, GivesTimes, NamesTimes, ListRefusal, NamedListRefusal, ListAnswer, Accepts, FirstRefusal, RefusesList, RefusesTable, RefusesFactors, asks_unbuilt};
 
 use crate::factors::load_factors;
 use crate::status::Status;
@@ -19,8 +18,6 @@ use ewald_table::Table;
 use expansion_table::Expansion;
 use output_schedule::{OutputErr, read_outputs};
 use param_file::{ParamErr, ParamKind, Params, read_params};
-use particle_set::BodySet;
-use snap_file::{Head, SnapErr, read_head, read_snapshot};
 use std::alloc::Global;
 use store_io::{ReadErr, Store, Text, read_whole};
 
@@ -29,9 +26,6 @@ const LONGEST_PARAMETERS: u64 = 65_536;
 
 /// The longest output list, in bytes.
 const LONGEST_LIST: u64 = 1_048_576;
-
-/// The longest snapshot, in bytes.
-const LONGEST_SNAPSHOT: u64 = 268_435_456;
 
 // The answer for a file that wasn't read.
 fn unread(alloc: Global, name: &Text, err: ReadErr) -> Status
@@ -57,6 +51,7 @@ pub fn read_file<S: Store>(
 ) -> Result<Vec<u8>, Status>
     ensures tells { S.tells store.new ≡ S.tells store.old }
     ensures files { S.file store.new ≡ S.file store.old }
+    ensures closed { S.closed store.new ≡ S.closed store.old }
     ensures ok { IfOk result (λ v. IsTrue (S.tells store.old) → WasRead (S.file store.old) name.now limit v.items) }
     ensures quiet { OnOk result ((S.faults store.new ≡ S.faults store.old) × (S.last store.new ≡ S.last store.old)) }
     ensures err { IfErr result (NotRead (record {
@@ -91,6 +86,7 @@ fn params_of(alloc: Global, bytes: &[u8]) -> Result<Params, Status>
 fn load_params<S: Store>(alloc: Global, store: &mut S, name: &Text) -> Result<Params, Status>
     ensures tells { S.tells store.new ≡ S.tells store.old }
     ensures files { S.file store.new ≡ S.file store.old }
+    ensures closed { S.closed store.new ≡ S.closed store.old }
     ensures ok { IfOk result (λ p. IsTrue (S.tells store.old) → NamesParams (S.file store.old) name.now p) }
     ensures built { IfOk result (λ p. asks_unbuilt p ≡ false) }
     ensures quiet { OnOk result ((S.faults store.new ≡ S.faults store.old) × (S.last store.new ≡ S.last store.old)) }
@@ -132,6 +128,7 @@ fn times_of(alloc: Global, bytes: &[u8]) -> Result<Vec<u64>, Status>
 fn load_list<S: Store>(alloc: Global, store: &mut S, name: &Text) -> Result<Vec<u64>, Status>
     ensures tells { S.tells store.new ≡ S.tells store.old }
     ensures files { S.file store.new ≡ S.file store.old }
+    ensures closed { S.closed store.new ≡ S.closed store.old }
     ensures ok { IfOk result (λ v. IsTrue (S.tells store.old) → NamesTimes (S.file store.old) name.now v.items) }
     ensures quiet { OnOk result ((S.faults store.new ≡ S.faults store.old) × (S.last store.new ≡ S.last store.old)) }
     ensures err { IfErr result (NamedListRefusal (record {
@@ -153,6 +150,7 @@ fn load_list<S: Store>(alloc: Global, store: &mut S, name: &Text) -> Result<Vec<
 fn load_outputs<S: Store>(alloc: Global, store: &mut S, params: &Params) -> Result<Vec<u64>, Status>
     ensures tells { S.tells store.new ≡ S.tells store.old }
     ensures files { S.file store.new ≡ S.file store.old }
+    ensures closed { S.closed store.new ≡ S.closed store.old }
     ensures ok { IfOk result (λ v. IsTrue (S.tells store.old)
         → GivesTimes (S.file store.old) params.now.output_list_filename v.items) }
     ensures quiet { OnOk result ((S.faults store.new ≡ S.faults store.old) × (S.last store.new ≡ S.last store.old)) }
@@ -170,104 +168,26 @@ fn load_outputs<S: Store>(alloc: Global, store: &mut S, params: &Params) -> Resu
     }
 }
 
-// The bodies that bytes spell.
-fn bodies_of(alloc: Global, bytes: &[u8]) -> Result<BodySet, Status>
-    ensures ok { IfOk result (SpellsSnapshot bytes.now) }
-    ensures err { IfErr result (SnapshotAnswer bytes.now) }
-{
-    match read_snapshot(alloc, bytes) {
-        Ok(set) => Ok(set),
-        Err(SnapErr::Memory) => Err(Status::Memory),
-        Err(err) => Err(Status::Snapshot(err)),
-    }
-}
-
-// The head that bytes spell.
-#[tactic(auto, using(crate::proofs::Heads::head_fault_is))]
-fn head_of(alloc: Global, bytes: &[u8]) -> Result<Head, Status>
-    ensures ok { IfOk result (SpellsHead bytes.now) }
-    ensures err { IfErr result (SnapshotAnswer bytes.now) }
-{
-    match read_head(alloc, bytes) {
-        Ok(head) => Ok(head),
-        Err(SnapErr::Memory) => Err(Status::Memory),
-        Err(err) => Err(Status::Snapshot(err)),
-    }
-}
-
-/// Reads a snapshot, its head too.
-pub fn load_snapshot<S: Store>(
-    alloc: Global,
-    store: &mut S,
-    name: &Text,
-) -> Result<(Head, BodySet), Status>
-    ensures tells { S.tells store.new ≡ S.tells store.old }
-    ensures files { S.file store.new ≡ S.file store.old }
-    ensures ok { IfOk result (λ r. IsTrue (S.tells store.old) → NamesSnapshot (S.file store.old) name.now r.0 r.1) }
-    ensures quiet { OnOk result ((S.faults store.new ≡ S.faults store.old) × (S.last store.new ≡ S.last store.old)) }
-    ensures err { IfErr result (SnapshotRefusal (record {
-      tells = S.tells store.old;
-      files = S.file store.old;
-      faults = S.faults store.old;
-      faults_new = S.faults store.new;
-      last = S.last store.new;
-    }) name.now) }
-{
-    let bytes = match read_file(alloc, store, name, LONGEST_SNAPSHOT) {
-        Ok(bytes) => bytes,
-        Err(status) => return Err(status),
-    };
-    let head = match head_of(alloc, &bytes) {
-        Ok(head) => head,
-        Err(status) => return Err(status),
-    };
-    match bodies_of(alloc, &bytes) {
-        Ok(set) => Ok((head, set)),
-        Err(status) => Err(status),
-    }
-}
-
-// Reads the bodies of a snapshot.
-fn load_bodies<S: Store>(alloc: Global, store: &mut S, name: &Text) -> Result<BodySet, Status>
-    ensures tells { S.tells store.new ≡ S.tells store.old }
-    ensures files { S.file store.new ≡ S.file store.old }
-    ensures ok { IfOk result (λ B. IsTrue (S.tells store.old) → NamesBodies (S.file store.old) name.now B) }
-    ensures quiet { OnOk result ((S.faults store.new ≡ S.faults store.old) × (S.last store.new ≡ S.last store.old)) }
-    ensures err { IfErr result (SnapshotRefusal (record {
-      tells = S.tells store.old;
-      files = S.file store.old;
-      faults = S.faults store.old;
-      faults_new = S.faults store.new;
-      last = S.last store.new;
-    }) name.now) }
-{
-    let bytes = match read_file(alloc, store, name, LONGEST_SNAPSHOT) {
-        Ok(bytes) => bytes,
-        Err(status) => return Err(status),
-    };
-    bodies_of(alloc, &bytes)
-}
-
-/// What a run is given: its settings, the listed times, the tables of corrections and of factors, and the bodies.
+/// What a run goes by beside its bodies: its settings, the listed times, and the tables of corrections and of factors.
 #[derive(Drop)]
-pub struct Inputs {
+pub struct Basis {
     pub params: Params,
     pub outputs: Vec<u64>,
     pub table: Option<Table>,
     pub factors: Option<Expansion>,
-    pub set: BodySet,
 }
 
-/// Reads a parameter file, then the list, the tables and the snapshot that it names.
-pub fn load_inputs<S: Store>(alloc: Global, store: &mut S, name: &Text) -> Result<Inputs, Status>
+/// Reads a parameter file, then the list and the tables that it names.
+pub fn load_basis<S: Store>(alloc: Global, store: &mut S, name: &Text) -> Result<Basis, Status>
     ensures tells { S.tells store.new ≡ S.tells store.old }
     ensures files { S.file store.new ≡ S.file store.old }
-    ensures ok { IfOk result (λ i. IsTrue (S.tells store.old)
-        → Accepts (S.file store.old) name.now i.params i.outputs.items i.table i.factors i.set) }
-    ensures sound { IfOk result (λ i. IfSome i.table IsTable) }
-    ensures reach { IfOk result (λ i. IfSome i.factors (λ e. Reaches e (last_tick (setup_of i.params)))) }
+    ensures closed { S.closed store.new ≡ S.closed store.old }
+    ensures ok { IfOk result (λ b. IsTrue (S.tells store.old)
+        → Accepts (S.file store.old) name.now b.params b.outputs.items b.table b.factors) }
+    ensures sound { IfOk result (λ b. IfSome b.table IsTable) }
+    ensures reach { IfOk result (λ b. IfSome b.factors (λ e. Reaches e (last_tick (setup_of b.params)))) }
     ensures quiet { OnOk result ((S.faults store.new ≡ S.faults store.old) × (S.last store.new ≡ S.last store.old)) }
-    ensures err { IfErr result (InputRefusal (record {
+    ensures err { IfErr result (FirstRefusal (record {
       tells = S.tells store.old;
       files = S.file store.old;
       faults = S.faults store.old;
@@ -287,19 +207,13 @@ pub fn load_inputs<S: Store>(alloc: Global, store: &mut S, name: &Text) -> Resul
         Ok(table) => table,
         Err(status) => return Err(status),
     };
-    let factors = match load_factors(alloc, store, &params) {
-        Ok(factors) => factors,
-        Err(status) => return Err(status),
-    };
-    let set = match load_bodies(alloc, store, &params.init_cond_file) {
-        Ok(set) => set,
-        Err(status) => return Err(status),
-    };
-    Ok(Inputs {
-        params,
-        outputs,
-        table,
-        factors,
-        set,
-    })
+    match load_factors(alloc, store, &params) {
+        Ok(factors) => Ok(Basis {
+            params,
+            outputs,
+            table,
+            factors,
+        }),
+        Err(status) => Err(status),
+    }
 }

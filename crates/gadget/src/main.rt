@@ -2,12 +2,20 @@
 //! ask for in the working folder, and ends with the status's code.
 #![tactic(auto)]
 
+mod begins;
 mod command;
 mod factors;
 mod inputs;
+mod laws;
 mod look;
 mod look_texts;
+mod outcome;
+mod restart_texts;
+mod restarts;
+mod run_texts;
+mod sessions;
 mod snap_texts;
+mod snapshots;
 mod status;
 mod tables;
 mod texts;

@@ -16,8 +16,8 @@ pub fn push_spaced(line: &mut Vec<u8>, n: u64) -> Result<(), Memory>
     push_unsigned(line, u128::from(n))
 }
 
-// Some words, and a number.
-fn push_counted(line: &mut Vec<u8>, words: &[u8], n: u64) -> Result<(), Memory>
+/// Some words, and a number.
+pub fn push_counted(line: &mut Vec<u8>, words: &[u8], n: u64) -> Result<(), Memory>
     ensures { OnOk result (line.new.items ≡ line.old.items ++ (words.now ++ spaced n)) }
 {
     line.extend_from_slice(words)?;
@@ -50,8 +50,8 @@ fn push_block_err(line: &mut Vec<u8>, err: &BlockErr) -> Result<(), Memory>
     }
 }
 
-// Puts what is wrong with a set of bodies behind a line.
-fn push_set_err(line: &mut Vec<u8>, err: &SetErr) -> Result<(), Memory>
+/// Puts what is wrong with a set of bodies behind a line.
+pub fn push_set_err(line: &mut Vec<u8>, err: &SetErr) -> Result<(), Memory>
     ensures { OnOk result (line.new.items ≡ line.old.items ++ set_text err.now) }
 {
     match err {

@@ -1,8 +1,12 @@
 // How a command ended.
+ghost use Rattle.std.specs.Prelude.{◌≡◌};
+ghost use Rattle.gadget.specs.Codes.{code_of};
+
 use ewald_table::TableErr;
 use expansion_table::ExpErr;
 use output_schedule::OutputErr;
-use param_file::ParamErr;
+use param_file::{ParamErr, ParamName};
+use restart_files::RestartErr;
 use snap_file::SnapErr;
 use store_io::Text;
 
@@ -10,6 +14,10 @@ use store_io::Text;
 #[derive(Debug, Drop)]
 pub enum Status {
     Done,
+    Stopped {
+        steps: u64,
+        tick: u64,
+    },
     Usage,
     Memory,
     ReadFault {
@@ -32,6 +40,10 @@ pub enum Status {
     Table(TableErr),
     Expansion(ExpErr),
     Snapshot(SnapErr),
+    Restart(RestartErr),
+    Differs {
+        name: ParamName,
+    },
     MomRange {
         tick: u64,
         bin: u8,
@@ -45,9 +57,12 @@ pub enum Status {
 }
 
 impl Status {
-    pub fn code(&self) -> u8 {
+    pub fn code(&self) -> u8
+        ensures { result ≡ code_of self.now }
+    {
         match self {
             Status::Done => 0,
+            Status::Stopped { .. } => 1,
             Status::Usage => 2,
             Status::Memory => 3,
             Status::ReadFault { .. } => 4,
@@ -60,6 +75,8 @@ impl Status {
             Status::Outputs(_) => 11,
             Status::Table(_) => 12,
             Status::Snapshot(_) => 13,
+            Status::Restart(_) => 14,
+            Status::Differs { .. } => 15,
             Status::Expansion(_) => 16,
             Status::MomRange { .. } => 20,
             Status::StepRange { .. } => 21,

@@ -33,6 +33,7 @@ fn table_of(alloc: Global, bytes: &[u8]) -> Result<Table, Status>
 fn load_table<S: Store>(alloc: Global, store: &mut S, name: &Text) -> Result<Table, Status>
     ensures tells { S.tells store.new ≡ S.tells store.old }
     ensures files { S.file store.new ≡ S.file store.old }
+    ensures closed { S.closed store.new ≡ S.closed store.old }
     ensures ok { IfOk result (λ t. IsTrue (S.tells store.old) → NamesTable (S.file store.old) name.now t) }
     ensures sound { IfOk result IsTable }
     ensures quiet { OnOk result ((S.faults store.new ≡ S.faults store.old) × (S.last store.new ≡ S.last store.old)) }
@@ -59,6 +60,7 @@ pub fn load_corrections<S: Store>(
 ) -> Result<Option<Table>, Status>
     ensures tells { S.tells store.new ≡ S.tells store.old }
     ensures files { S.file store.new ≡ S.file store.old }
+    ensures closed { S.closed store.new ≡ S.closed store.old }
     ensures ok { IfOk result (λ t. IsTrue (S.tells store.old)
         → GivesTable (S.file store.old) params.now.ewald_table_file t) }
     ensures sound { IfOk result (λ t. IfSome t IsTable) }

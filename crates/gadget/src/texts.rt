@@ -2,8 +2,9 @@
 ghost use Rattle.std.specs.Prelude.{◌≡◌, ◌++◌, IfOk, OnOk, codes};
 ghost use Rattle.std.specs.Fmt.{signed_decimal};
 ghost use Rattle.nbody_model.specs.Bodies.{vector};
-ghost use Rattle.gadget.specs.Texts.{spaced, counted, vector_text, kind_text, param_text, list_text, table_text, expansion_text, status_words, status_text, done_text, IsNotMissing};
+ghost use Rattle.gadget.specs.Texts.{spaced, counted, vector_text, kind_text, param_text, list_text, table_text, expansion_text, status_words, status_text, IsNotMissing};
 
+use crate::restart_texts::push_restart_err;
 use crate::snap_texts::{push_snap_err, push_spaced};
 use crate::status::Status;
 use ewald_table::TableErr;
@@ -11,7 +12,7 @@ use expansion_table::ExpErr;
 use fixed_point::Memory;
 use output_schedule::OutputErr;
 use param_file::{ParamErr, ParamKind};
-use run_session::Ended;
+use restart_files::RestartErr;
 use snap_file::SnapErr;
 use std::alloc::Global;
 use store_io::Text;
@@ -44,26 +45,6 @@ pub fn push_vector(line: &mut Vec<u8>, v: &[i128; 3]) -> Result<(), Memory>
     push_signed(line, v[0])?;
     push_signed(line, v[1])?;
     push_signed(line, v[2])
-}
-
-/// The line of a run that is done.
-pub fn done_line(alloc: Global, run: &Ended) -> Result<Vec<u8>, Memory>
-    ensures { IfOk result (λ line. line.items ≡ done_text run.now) }
-{
-    let mut line = Vec::new(alloc);
-    push_two(&mut line, b"done tick", run.tick, b" steps", run.steps)?;
-    push_two(
-        &mut line,
-        b" snapshots",
-        run.snapshots,
-        b" kicks",
-        run.kicks,
-    )?;
-    push_counted(&mut line, b" interactions", run.interactions)?;
-    line.extend_from_slice(b" momentum")?;
-    push_vector(&mut line, &run.momentum)?;
-    line.push(b'\n')?;
-    Ok(line)
 }
 
 // The words for what is wrong with a parameter file.
@@ -163,8 +144,8 @@ fn push_expansion_fault(line: &mut Vec<u8>, err: &ExpErr) -> Result<(), Memory>
     push_expansion_err(line, err)
 }
 
-// Some words, and a name.
-fn push_name(line: &mut Vec<u8>, words: &[u8], name: &[u8]) -> Result<(), Memory>
+/// Some words, and a name.
+pub fn push_name(line: &mut Vec<u8>, words: &[u8], name: &[u8]) -> Result<(), Memory>
     ensures { OnOk result (line.new.items ≡ line.old.items ++ (words.now ++ name.now)) }
 {
     line.extend_from_slice(words)?;
@@ -172,8 +153,14 @@ fn push_name(line: &mut Vec<u8>, words: &[u8], name: &[u8]) -> Result<(), Memory
     Ok(())
 }
 
-// Twice some words and a number.
-fn push_two(line: &mut Vec<u8>, first: &[u8], m: u64, second: &[u8], n: u64) -> Result<(), Memory>
+/// Twice some words and a number.
+pub fn push_two(
+    line: &mut Vec<u8>,
+    first: &[u8],
+    m: u64,
+    second: &[u8],
+    n: u64,
+) -> Result<(), Memory>
     ensures { OnOk result (line.new.items ≡ line.old.items ++ (counted first.now m ++ counted second.now n)) }
 {
     push_counted(line, first, u128::from(m))?;
@@ -210,12 +197,19 @@ fn push_snapshot_fault(line: &mut Vec<u8>, err: &SnapErr) -> Result<(), Memory>
     push_snap_err(line, err)
 }
 
+fn push_restart_fault(line: &mut Vec<u8>, err: &RestartErr) -> Result<(), Memory>
+    ensures { OnOk result (line.new.items ≡ line.old.items ++ status_words (Status.Restart err.now)) }
+{
+    line.extend_from_slice(b"restart ")?;
+    push_restart_err(line, err)
+}
+
 // The words of a status, with no end of line.
 fn push_status(line: &mut Vec<u8>, status: &Status) -> Result<(), Memory>
     ensures { OnOk result (line.new.items ≡ line.old.items ++ status_words status.now) }
 {
     match status {
-        Status::Done | Status::ConsoleFault => Ok(()),
+        Status::Done | Status::Stopped { .. } | Status::ConsoleFault => Ok(()),
         Status::Usage => Ok(line.extend_from_slice(USAGE)?),
         Status::Memory => Ok(line.extend_from_slice(b"no memory")?),
         Status::NotBuilt => Ok(line.extend_from_slice(b"not built")?),
@@ -228,6 +222,8 @@ fn push_status(line: &mut Vec<u8>, status: &Status) -> Result<(), Memory>
         Status::Table(err) => push_table_fault(line, err),
         Status::Expansion(err) => push_expansion_fault(line, err),
         Status::Snapshot(err) => push_snapshot_fault(line, err),
+        Status::Restart(err) => push_restart_fault(line, err),
+        Status::Differs { name } => push_name(line, b"differs ", name.as_bytes()),
         Status::MomRange {
             tick,
             bin,

@@ -1,115 +1,98 @@
 // The top call: words in, a status out.
-ghost use Rattle.std.specs.Prelude.{◌≡◌, IfOk, IfErr, OnOk};
-ghost use Rattle.run_session.specs.Ends.{EndHasCause};
+ghost use Rattle.std.specs.Prelude.{◌≡◌, IfOk};
 ghost use Rattle.gadget.specs.Commands.{asked};
-ghost use Rattle.gadget.specs.Reads.{Seen};
-ghost use Rattle.gadget.specs.Answers.{CommandEnds, Ends, Leaves, LineOf, PrintEnds, RunEnds, Runs, StepsEnd};
+ghost use Rattle.gadget.specs.Outcomes.{status_of, text_of};
+ghost use Rattle.gadget.specs.Answers.{Console, Does, Ends, Prints, world};
 
 use crate::command::{Command, command_of};
-use crate::inputs::{Inputs, load_inputs};
 use crate::look::{check, show};
+use crate::look_texts::{check_line, show_lines};
+use crate::outcome::Outcome;
+use crate::run_texts::{run_line, run_status};
+use crate::sessions::{resume, run};
 use crate::status::Status;
-use crate::texts::{done_line, status_line};
-use force_field::ListField;
-use run_session::{End, Ended};
+use crate::texts::status_line;
+use fixed_point::Memory;
 use std::alloc::Global;
 use store_io::{IoErr, Schedule, Sink, Stopper, Store, Text};
 
-// The line of a run that is done, or why it isn't.
-fn line_of(alloc: Global, ended: Ended) -> Result<Vec<u8>, Status>
-    ensures ok { IfOk result (λ line. Runs line.items) }
-    ensures err { (s : Seen) → EndHasCause s.faults s.faults_new s.last ended.end → IfErr result (StepsEnd s) }
-{
-    let line = done_line(alloc, &ended);
-    match ended.end {
-        End::Done => match line {
-            Ok(line) => Ok(line),
-            Err(_) => Err(Status::Memory),
-        },
-        End::WriteFault { name } => Err(Status::WriteFault { name }),
-        End::MomRange {
-            tick,
-            bin,
-            id,
-            axis,
-        } => Err(Status::MomRange {
-            tick,
-            bin,
-            id,
-            axis,
-        }),
-        End::StepRange { tick, id } => Err(Status::StepRange { tick, id }),
-        End::Memory => Err(Status::Memory),
-    }
-}
-
-// A run with one rank, from its parameter file to the line that it ends with.
-fn run<S: Store>(alloc: Global, store: &mut S, param: &Text) -> Result<Vec<u8>, Status>
-    ensures ok { IfOk result (λ line. Runs line.items) }
-    ensures err { IfErr result (RunEnds (record {
-      tells = S.tells store.old;
-      files = S.file store.old;
-      faults = S.faults store.old;
-      faults_new = S.faults store.new;
-      last = S.last store.new;
-    }) (S.file store.new) param.now) }
-{
-    let Inputs {
-        params,
-        outputs,
-        table,
-        factors,
-        set,
-    } = match load_inputs(alloc, store, param) {
-        Ok(inputs) => inputs,
-        Err(status) => return Err(status),
-    };
-    let mut forces = ListField::new(alloc, params.setup(), table.as_ref());
-    let expansion = factors.as_ref();
-    let ended = run_session::run(alloc, set, &params, expansion, &outputs, &mut forces, store);
-    line_of(alloc, ended)
-}
-
-// Does what the words ask for, and gives the line to print.
-fn answer<S: Store>(alloc: Global, words: &[Text], store: &mut S) -> Result<Vec<u8>, Status>
-    ensures ok { IfOk result (λ line. LineOf (asked words.now) (S.tells store.old) (S.file store.old) line.items) }
-    ensures left { OnOk result (Leaves (asked words.now) (record {
-      tells = S.tells store.old;
-      files = S.file store.old;
-      faults = S.faults store.old;
-      faults_new = S.faults store.new;
-      last = S.last store.new;
-    }) (S.file store.new)) }
-    ensures err { IfErr result (CommandEnds (asked words.now) (record {
-      tells = S.tells store.old;
-      files = S.file store.old;
-      faults = S.faults store.old;
-      faults_new = S.faults store.new;
-      last = S.last store.new;
-    }) (S.file store.new)) }
+// Does what the words ask for.
+fn perform<S: Store, Q: Stopper>(
+    alloc: Global,
+    words: &[Text],
+    store: &mut S,
+    stop: &mut Q,
+) -> Outcome
+    ensures { Does (asked words.now) (S.tells store.old) (world (S.file store.old) (S.closed store.old) (S.faults store.old) (S.last store.old) (Q.yes stop.old) (Q.left stop.old))
+        (world (S.file store.new) (S.closed store.new) (S.faults store.new) (S.last store.new) (Q.yes stop.new) (Q.left stop.new)) result }
 {
     match command_of(words) {
-        Command::Nothing => Err(Status::Usage),
-        Command::Unbuilt => Err(Status::NotBuilt),
+        Command::Nothing => Outcome::Refused(Status::Usage),
+        Command::Unbuilt => Outcome::Refused(Status::NotBuilt),
         Command::Run { param, ranks } => {
             if ranks != 1 {
-                return Err(Status::NotBuilt);
+                return Outcome::Refused(Status::NotBuilt);
             }
-            run(alloc, store, param)
+            run(alloc, param, store, stop)
+        }
+        Command::Resume {
+            param,
+            restart,
+            ranks,
+        } => {
+            if ranks != 1 {
+                return Outcome::Refused(Status::NotBuilt);
+            }
+            resume(alloc, param, restart, store, stop)
         }
         Command::Check { param } => check(alloc, store, param),
         Command::Show { snapshot } => show(alloc, store, snapshot),
     }
 }
 
-// Prints the line of an answer. A fault of the sink replaces the answer.
-fn print<O: Sink>(out: &mut O, line: &[u8], status: Status) -> Status
-    ensures { PrintEnds status line.now (O.written out.old) (O.written out.new) (O.faults out.old) (O.faults out.new) result }
+// The lines of an outcome.
+fn lines_of(alloc: Global, outcome: &Outcome) -> Result<Vec<u8>, Memory>
+    ensures { IfOk result (λ lines. lines.items ≡ text_of outcome.now) }
 {
-    match out.write(line) {
+    match outcome {
+        Outcome::Ran { ended, setup } => run_line(alloc, ended, setup),
+        Outcome::Checked { set } => check_line(alloc, set),
+        Outcome::Shown { head, set } => show_lines(alloc, head, set),
+        Outcome::Refused(status) => status_line(alloc, status),
+    }
+}
+
+// The status of an outcome.
+fn status_of(outcome: Outcome) -> Status
+    ensures { result ≡ status_of outcome }
+{
+    match outcome {
+        Outcome::Ran { ended, .. } => run_status(ended),
+        Outcome::Checked { .. } | Outcome::Shown { .. } => Status::Done,
+        Outcome::Refused(status) => status,
+    }
+}
+
+// Prints lines. A fault of the sink replaces the answer.
+fn print<O: Sink>(out: &mut O, lines: &[u8], status: Status) -> Status
+    ensures { Prints status lines.now (record { written = O.written out.old; faults = O.faults out.old })
+        (record { written = O.written out.new; faults = O.faults out.new }) result }
+{
+    match out.write(lines) {
         Ok(()) => status,
         Err(IoErr::Failed) => Status::ConsoleFault,
         Err(IoErr::Memory) => Status::Memory,
+    }
+}
+
+// Prints the lines of an outcome, and answers its status.
+fn tell<O: Sink>(alloc: Global, outcome: Outcome, out: &mut O) -> Status
+    ensures { Prints (status_of outcome) (text_of outcome) (record { written = O.written out.old; faults = O.faults out.old })
+        (record { written = O.written out.new; faults = O.faults out.new }) result }
+{
+    match lines_of(alloc, &outcome) {
+        Ok(lines) => print(out, &lines, status_of(outcome)),
+        Err(_) => Status::Memory,
     }
 }
 
@@ -119,24 +102,16 @@ pub fn gadget<S: Store, K: Schedule, Q: Stopper, O: Sink>(
     words: &[Text],
     store: &mut S,
     _order: &mut K,
-    _stop: &mut Q,
+    stop: &mut Q,
     out: &mut O,
 ) -> Status
-    ensures { Ends (asked words.now) (record {
-      tells = S.tells store.old;
-      files = S.file store.old;
-      faults = S.faults store.old;
-      faults_new = S.faults store.new;
-      last = S.last store.new;
-    }) (S.file store.new) (O.written out.old) (O.written out.new) (O.faults out.old) (O.faults out.new) result }
+    ensures { Ends (asked words.now) (S.tells store.old) (world (S.file store.old) (S.closed store.old) (S.faults store.old) (S.last store.old) (Q.yes stop.old) (Q.left stop.old))
+        (world (S.file store.new) (S.closed store.new) (S.faults store.new) (S.last store.new) (Q.yes stop.new) (Q.left stop.new))
+        (record { written = O.written out.old; faults = O.faults out.old })
+        (record { written = O.written out.new; faults = O.faults out.new }) result }
 {
-    match answer(alloc, words, store) {
-        Ok(line) => print(out, &line, Status::Done),
-        Err(status) => match status_line(alloc, &status) {
-            Ok(line) => print(out, &line, status),
-            Err(_) => Status::Memory,
-        },
-    }
+    let outcome = perform(alloc, words, store, stop);
+    tell(alloc, outcome, out)
 }
 
 #[cfg(test)]

@@ -4,9 +4,9 @@ ghost use Rattle.gadget.specs.Inputs.{asks_unbuilt};
 
 use param_file::Params;
 
-/// Whether a parameter file asks for what isn't built.
+/// Whether a parameter file asks for what isn't built: a trace of the ranks.
 pub fn asks_unbuilt(params: &Params) -> bool
     ensures { result ≡ asks_unbuilt params.now }
 {
-    params.restart_every != 0 || params.rank_trace != 0 || params.bin_file.is_some()
+    params.rank_trace != 0
 }

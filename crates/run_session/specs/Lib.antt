@@ -1,4 +1,13 @@
-pub mod Ends
-pub mod Failures
-pub mod Ready
-pub mod Standing
+pub mod Own
+pub mod Causes
+pub mod Changes
+pub mod Logs
+pub mod Numbers
+pub mod Outputs
+pub mod RunEnds
+pub mod Spaced
+pub mod Stages
+pub mod Courses
+pub mod Steps
+pub mod Turned
+pub mod Sessions

@@ -1,13 +1,25 @@
 //! A run: base steps, and the files that it writes.
 #![tactic(auto)]
 
+mod course;
+mod ended;
+mod failure;
 mod files;
-mod kicks;
+mod lines;
+mod log;
 mod names;
+mod own;
+mod recorder;
 mod session;
+mod step;
+mod steps;
+mod sync;
+mod turn;
+mod writes;
 
+pub use ended::{End, Ended};
 pub use names::numbered;
-pub use session::{End, Ended, run};
+pub use session::run;
 
 #[cfg(test)]
 mod tests;

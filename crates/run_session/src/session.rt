@@ -1,336 +1,289 @@
-// A session: base steps until the last tick, and what is written at each synchronisation.
-ghost use Rattle.std.specs.Prelude.{◌≡◌, ℕ, ◌≤◌, ◌<◌, ◌+◌, ◌^◌, Option, IsTrue, IsSome, IfErr, IfSome, OnOk};
-ghost use Rattle.std.specs.Option.{option_copied};
+// A whole run: its session, and the files that are kept open around it.
+ghost use Rattle.std.specs.Prelude.{Bool, ◌≡◌, ◌≤◌, ◌<◌, ◌*◌, ◌^◌, ℕ, ℤ, List, [], Option, Some, None, IfSome, IsTrue, false, true, not, IfOk, IfErr, OnOk, OnErr, option_copied};
+ghost use Rattle.nbody_model.specs.Bodies.{total};
 ghost use Rattle.nbody_model.specs.Setups.{last_tick};
-ghost use Rattle.nbody_model.specs.Tables.{Reaches};
-ghost use Rattle.param_file.specs.Settings.{setup_of};
-ghost use Rattle.step_engine.specs.BaseSteps.{StandsFor};
-ghost use Rattle.run_session.specs.Ready.{IsReady, StaysPut};
-ghost use Rattle.run_session.specs.Failures.{HasFailed};
-ghost use Rattle.run_session.specs.Ends.{EndHasCause};
-ghost use Rattle.run_session.specs.Standing.{KeepsFiles, OnOkNone};
-ghost use Rattle.store_io.specs.Causes.{Call};
+ghost use Rattle.nbody_model.specs.Tables.{Gravity, Reaches};
+ghost use Rattle.nbody_model.specs.Evolve.{is_empty};
+ghost use Rattle.nbody_model.specs.Session.{SessionData, session};
+ghost use Rattle.model_laws.specs.Laws.{AreBodies};
+ghost use Rattle.param_file.specs.Settings.{IsParams, setup_of};
+ghost use Rattle.step_engine.specs.BaseSteps.{StandsFor, is_known};
+ghost use Rattle.step_engine.specs.Stands.{components};
+ghost use Rattle.run_session.specs.Causes.{FilesCause};
+ghost use Rattle.run_session.specs.Own.{AreApart, own_files};
+ghost use Rattle.run_session.specs.RunEnds.{IsBegun, RunEnds, World, plan_of};
+ghost use Rattle.run_session.specs.Stages.{AreOthers, KeepsOwn, Matches, world};
+ghost use Rattle.run_session.specs.Courses.{basis_of};
+ghost use Rattle.run_session.specs.Sessions.{Begins, SessionLeaves, StartsBy, came_to_last, end_of, ended_by, start_session, told_end, told_state};
+ghost use Rattle.run_session.specs.Turned.{AreStanding, Comes, HasBroken, StepsEnd, SyncTurns};
 
-use crate::files::{Failure, append_to, close_file, create_file, write_snapshot_file};
-use crate::kicks::Kicks;
-use crate::names::{kick_lines, numbered};
+use crate::course::{Course, Progress};
+use crate::ended::{End, Ended};
+use crate::failure::Failure;
+use crate::files::{finish_own, open_own};
+use crate::names::own_names;
+use crate::step::Refusal;
+use crate::steps::whole_steps;
+use crate::turn::{Turn, after_step, take_turn};
 use expansion_table::Expansion;
-use nbody_model::{Field, Forces, Record};
-use output_schedule::due;
+use model_laws::laws::bodies::keep_limits;
+use model_laws::laws::sessions::sessions_conserve;
+use nbody_model::Forces;
 use param_file::Params;
 use particle_set::BodySet;
+use restart_files::State;
 use std::alloc::Global;
-use step_engine::{StepEnd, base_step};
-use store_io::{Store, Text};
+use store_io::{Stopper, Store};
 
-/// How a run ended: at the last tick; a file of this name couldn't be written; the momentum of a body left
-/// its range in a kick; a body fits no bin; or memory was wanting.
-#[derive(Debug, Drop)]
-pub enum End {
-    Done,
-    WriteFault {
-        name: Text,
-    },
-    MomRange {
-        tick: u64,
-        bin: u8,
-        id: u64,
-        axis: u8,
-    },
-    StepRange {
-        tick: u64,
-        id: u64,
-    },
-    Memory,
-}
-
-/// How a run ended, and what is told of it: its tick, the base steps, snapshots and kicks so far, the
-/// interactions of all their forces, and the momentum of all bodies.
-#[derive(Debug, Drop)]
-pub struct Ended {
-    pub end: End,
-    pub tick: u64,
-    pub steps: u64,
-    pub snapshots: u64,
-    pub kicks: u64,
-    pub interactions: u128,
-    pub momentum: [i128; 3],
-}
-
-// How far a run is. The forces among all bodies are known, or not.
-#[derive(Drop)]
-struct Progress {
-    set: BodySet,
-    known: Option<Field>,
-    tick: u64,
-    steps: u64,
-    snapshots: u64,
-    kicks: u64,
-    interactions: u128,
-}
-
-// Why a base step was refused.
-#[derive(Clone, Copy)]
-enum Refusal {
-    MomRange {
-        tick: u64,
-        bin: u8,
-        id: u64,
-        axis: u8,
-    },
-    StepRange {
-        tick: u64,
-        id: u64,
-    },
-}
-
-// Adds the kicks of a base step to the counters.
-fn count_kicks(run: &mut Progress, kicks: &[Record])
-    ensures { StaysPut run.old run.new }
-{
-    run.kicks = run.kicks.wrapping_add(kicks.len() as u64);
-    for kick in kicks {
-        run.interactions = run
-            .interactions
-            .wrapping_add(u128::from(kick.pairs))
-            .wrapping_add(u128::from(kick.fast_pairs));
-    }
-}
-
-// Writes the next snapshot.
-fn write_next_snapshot<S: Store>(
+// The synchronisation of tick 0, in a run that isn't resumed.
+fn start<F: Forces, S: Store, Q: Stopper>(
     alloc: Global,
-    run: &mut Progress,
-    base: &Text,
+    course: &Course,
+    resumed: bool,
+    state: State,
     store: &mut S,
-) -> Result<(), Failure>
+    stop: &mut Q,
+) -> Result<Turn, Failure>
+    requires others { AreOthers course.now.params.now course.now.own.now }
+    requires setup { course.now.setup.now ≡ setup_of course.now.params.now }
+    requires begun { IsBegun (setup_of course.now.params.now) resumed state }
     ensures tells { S.tells store.new ≡ S.tells store.old }
-    ensures kept { OnOk result (IsTrue (S.tells store.old) → KeepsFiles (S.file store.old) (S.file store.new)) }
-    ensures stays { StaysPut run.old run.new }
-    ensures later { S.faults store.old ≤ S.faults store.new }
-    ensures cause { IfErr result (HasFailed (S.faults store.old) (S.faults store.new) (S.last store.new)) }
+    ensures cause { FilesCause result (S.faults store.old) (S.faults store.new) (S.last store.old) (S.last store.new) }
+    ensures keeps { OnOk result (KeepsOwn course.now.own.now (S.tells store.old) (S.file store.old) (S.file store.new)) }
+    ensures starts { IfOk result (StartsBy course.now.params.now) }
+    ensures ok { IfOk result (λ t. (g : Gravity) (fixed : List ℕ) (A : World) (fs : List ℕ) → g.setup ≡ setup_of course.now.params.now → Matches (basis_of g course.now (S.tells store.old) A) (F.passes g fixed) (start_session state) state (world (S.file store.old) (S.closed store.old) (S.faults store.old) (S.last store.old) fs (Q.yes stop.old) (Q.left stop.old)) → SyncTurns (basis_of g course.now (S.tells store.old) A) (F.passes g fixed) (λ s. session (plan_of g (option_copied course.now.expansion) course.now.params.now course.now.outputs.now) resumed s state) false (world (S.file store.new) (S.closed store.new) (S.faults store.new) (S.last store.new) fs (Q.yes stop.new) (Q.left stop.new)) t) }
+    ensures err { OnErr result ((g : Gravity) (fixed : List ℕ) (A : World) (fs : List ℕ) → g.setup ≡ setup_of course.now.params.now → Matches (basis_of g course.now (S.tells store.old) A) (F.passes g fixed) (start_session state) state (world (S.file store.old) (S.closed store.old) (S.faults store.old) (S.last store.old) fs (Q.yes stop.old) (Q.left stop.old)) → HasBroken (basis_of g course.now (S.tells store.old) A) (F.passes g fixed) (λ s. session (plan_of g (option_copied course.now.expansion) course.now.params.now course.now.outputs.now) resumed s state) (world (S.file store.new) (S.closed store.new) (S.faults store.new) (S.last store.new) fs (Q.yes stop.new) (Q.left stop.new))) }
 {
-    let Ok(name) = numbered(alloc, base, run.snapshots) else {
-        return Err(Failure::Memory);
-    };
-    let number = (run.snapshots % (1 << 32)) as u32;
-    write_snapshot_file(alloc, store, &name, &run.set, run.tick, number)?;
-    run.snapshots = run.snapshots.wrapping_add(1);
-    Ok(())
+    let run = Progress { state, known: None };
+    if resumed {
+        return Ok(Turn::On(run));
+    }
+    match after_step::<F, S, Q>(alloc, course, None, run, store, stop) {
+        Ok(turn) => Ok(turn),
+        Err(failure) => Err(failure),
+    }
 }
 
-// A synchronisation: writes a snapshot where one of the listed times from `from` on has come, and at the end.
-fn synchronise<S: Store>(
+// Whether a state is at rest inside a base step.
+fn rests(state: &State) -> bool
+    ensures { result ≡ not (is_empty state.now.depths) }
+{
+    state.depth.len() != 0
+}
+
+// What is left of a base step that rests, and then whole ones.
+fn all_steps<F: Forces, S: Store, Q: Stopper>(
     alloc: Global,
-    run: &mut Progress,
-    params: &Params,
-    outputs: &[u64],
-    from: u64,
-    store: &mut S,
-) -> Result<(), Failure>
-    requires { run.old.tick < 2 ^ 63 }
-    ensures tells { S.tells store.new ≡ S.tells store.old }
-    ensures kept { OnOk result (IsTrue (S.tells store.old) → KeepsFiles (S.file store.old) (S.file store.new)) }
-    ensures stays { StaysPut run.old run.new }
-    ensures later { S.faults store.old ≤ S.faults store.new }
-    ensures cause { IfErr result (HasFailed (S.faults store.old) (S.faults store.new) (S.last store.new)) }
-{
-    let is_due = due(outputs, from, run.tick + 1);
-    if is_due {
-        return write_next_snapshot(alloc, run, &params.snapshot_file_base, store);
-    }
-    if run.tick >= params.time_max {
-        return write_next_snapshot(alloc, run, &params.snapshot_file_base, store);
-    }
-    Ok(())
-}
-
-// Why a base step ended early. A taker of kicks in memory fails by want of it alone, and never rests.
-fn refusal_of(end: StepEnd) -> Result<Refusal, Failure>
-    ensures { (before now : ℕ) (last : Option Call) → IfErr result (HasFailed before now last) }
-{
-    match end {
-        StepEnd::MomRange {
-            tick,
-            bin,
-            id,
-            axis,
-        } => Ok(Refusal::MomRange {
-            tick,
-            bin,
-            id,
-            axis,
-        }),
-        StepEnd::StepRange { tick, id } => Ok(Refusal::StepRange { tick, id }),
-        StepEnd::OutFault | StepEnd::Rest { .. } | StepEnd::Memory => Err(Failure::Memory),
-    }
-}
-
-// Makes a base step, and keeps its kicks; or says why it was refused.
-#[tactic(auto, using(crate::proofs::Ready::reaches_next))]
-fn step<F: Forces>(
-    alloc: Global,
-    run: &mut Progress,
-    params: &Params,
-    expansion: Option<&Expansion>,
+    course: &Course,
+    run: Progress,
     forces: &mut F,
-    kicks: &mut Kicks,
-) -> Result<Option<Refusal>, Failure>
-    requires ready { IsReady (F.gravity forces.old) params.now (option_copied expansion) run.old }
-    requires early { run.old.tick < params.now.time_max }
-    ensures gravity { F.gravity forces.new ≡ F.gravity forces.old }
-    ensures ready { IsReady (F.gravity forces.old) params.now (option_copied expansion.entry) run.new }
-    ensures tick { run.new.tick ≡ run.old.tick }
-    ensures cause { (before now : ℕ) (last : Option Call) → IfErr result (HasFailed before now last) }
+    store: &mut S,
+    stop: &mut Q,
+) -> Result<Turn, Failure>
+    requires forces { StandsFor (F.gravity forces.old) (setup_of course.now.params.now) }
+    requires setup { course.now.setup.now ≡ setup_of course.now.params.now }
+    requires spans { IfSome (option_copied course.now.expansion) (λ e. Reaches e (last_tick (setup_of course.now.params.now))) }
+    requires others { AreOthers course.now.params.now course.now.own.now }
+    requires apart { AreApart course.now.own.now }
+    requires limits { IsParams course.now.params.now }
+    requires there { AreStanding course.now.own.now (S.tells store.old) (S.file store.old) }
+    requires none { run.known ≡ None }
+    requires begun { Begins course.now.params.now run.state }
+    ensures tells { S.tells store.new ≡ S.tells store.old }
+    ensures cause { FilesCause result (S.faults store.old) (S.faults store.new) (S.last store.old) (S.last store.new) }
+    ensures keeps { OnOk result (AreStanding course.now.own.now (S.tells store.old) (S.file store.new)) }
+    ensures ok { IfOk result (λ t. (A : World) (sessions : Option ℕ → SessionData) → Comes (basis_of (F.gravity forces.old) course.now (S.tells store.old) A) (F.passes (F.gravity forces.old) (F.fixed forces.old)) sessions run.state false (world (S.file store.old) (S.closed store.old) (S.faults store.old) (S.last store.old) (F.state forces.old) (Q.yes stop.old) (Q.left stop.old)) → StepsEnd (basis_of (F.gravity forces.old) course.now (S.tells store.old) A) (F.passes (F.gravity forces.old) (F.fixed forces.old)) sessions (world (S.file store.new) (S.closed store.new) (S.faults store.new) (S.last store.new) (F.state forces.new) (Q.yes stop.new) (Q.left stop.new)) t) }
+    ensures err { OnErr result ((A : World) (sessions : Option ℕ → SessionData) → Comes (basis_of (F.gravity forces.old) course.now (S.tells store.old) A) (F.passes (F.gravity forces.old) (F.fixed forces.old)) sessions run.state false (world (S.file store.old) (S.closed store.old) (S.faults store.old) (S.last store.old) (F.state forces.old) (Q.yes stop.old) (Q.left stop.old)) → HasBroken (basis_of (F.gravity forces.old) course.now (S.tells store.old) A) (F.passes (F.gravity forces.old) (F.fixed forces.old)) sessions (world (S.file store.new) (S.closed store.new) (S.faults store.new) (S.last store.new) (F.state forces.new) (Q.yes stop.new) (Q.left stop.new))) }
 {
-    let setup = params.setup();
-    let made = base_step(
-        alloc,
-        &mut run.set,
-        &setup,
-        expansion,
-        run.tick,
-        &mut run.known,
-        forces,
-        kicks,
-    );
-    match made {
-        Ok(_) => Ok(None),
-        Err(end) => match refusal_of(end) {
-            Ok(refusal) => Ok(Some(refusal)),
+    if !rests(&run.state) {
+        return match whole_steps(alloc, course, run, forces, store, stop) {
+            Ok(turn) => Ok(turn),
             Err(failure) => Err(failure),
-        },
+        };
     }
-}
-
-// Makes a base step, and puts the lines of its kicks into the kick file; or says why it was refused.
-fn step_with_lines<F: Forces, S: Store>(
-    alloc: Global,
-    run: &mut Progress,
-    params: &Params,
-    expansion: Option<&Expansion>,
-    forces: &mut F,
-    store: &mut S,
-) -> Result<Option<Refusal>, Failure>
-    requires stands { IsTrue (S.tells store.old) → IsSome (S.file store.old params.now.kick_file) }
-    requires ready { IsReady (F.gravity forces.old) params.now (option_copied expansion) run.old }
-    requires early { run.old.tick < params.now.time_max }
-    ensures tells { S.tells store.new ≡ S.tells store.old }
-    ensures stands { OnOk result (IsTrue (S.tells store.old) → IsSome (S.file store.new params.now.kick_file)) }
-    ensures gravity { F.gravity forces.new ≡ F.gravity forces.old }
-    ensures ready { OnOk result (IsReady (F.gravity forces.old) params.now (option_copied expansion.entry) run.new) }
-    ensures tick { run.new.tick ≡ run.old.tick }
-    ensures later { S.faults store.old ≤ S.faults store.new }
-    ensures cause { IfErr result (HasFailed (S.faults store.old) (S.faults store.new) (S.last store.new)) }
-{
-    let mut kicks = Kicks::new(alloc);
-    let refused = match step(alloc, run, params, expansion, forces, &mut kicks) {
-        Ok(refused) => refused,
+    let turn = match take_turn(alloc, course, run, forces, store, stop) {
+        Ok(turn) => turn,
         Err(failure) => return Err(failure),
     };
-    let Ok(lines) = kick_lines(alloc, &kicks.list) else {
+    match turn {
+        Turn::On(next) => match whole_steps(alloc, course, next, forces, store, stop) {
+            Ok(turn) => Ok(turn),
+            Err(failure) => Err(failure),
+        },
+        Turn::Stopped(state) => Ok(Turn::Stopped(state)),
+        Turn::Refused(refusal) => Ok(Turn::Refused(refusal)),
+    }
+}
+
+// The session: the synchronisation of tick 0, and all base steps.
+fn session_steps<F: Forces, S: Store, Q: Stopper>(
+    alloc: Global,
+    course: &Course,
+    resumed: bool,
+    state: State,
+    forces: &mut F,
+    store: &mut S,
+    stop: &mut Q,
+) -> Result<Turn, Failure>
+    requires forces { StandsFor (F.gravity forces.old) (setup_of course.now.params.now) }
+    requires setup { course.now.setup.now ≡ setup_of course.now.params.now }
+    requires spans { IfSome (option_copied course.now.expansion) (λ e. Reaches e (last_tick (setup_of course.now.params.now))) }
+    requires others { AreOthers course.now.params.now course.now.own.now }
+    requires apart { AreApart course.now.own.now }
+    requires limits { IsParams course.now.params.now }
+    requires there { AreStanding course.now.own.now (S.tells store.old) (S.file store.old) }
+    requires begun { IsBegun (setup_of course.now.params.now) resumed state }
+    ensures tells { S.tells store.new ≡ S.tells store.old }
+    ensures cause { FilesCause result (S.faults store.old) (S.faults store.new) (S.last store.old) (S.last store.new) }
+    ensures keeps { OnOk result (AreStanding course.now.own.now (S.tells store.old) (S.file store.new)) }
+    ensures ok { IfOk result (λ t. (A : World) → Matches (basis_of (F.gravity forces.old) course.now (S.tells store.old) A) (F.passes (F.gravity forces.old) (F.fixed forces.old)) (start_session state) state (world (S.file store.old) (S.closed store.old) (S.faults store.old) (S.last store.old) (F.state forces.old) (Q.yes stop.old) (Q.left stop.old)) → StepsEnd (basis_of (F.gravity forces.old) course.now (S.tells store.old) A) (F.passes (F.gravity forces.old) (F.fixed forces.old)) (λ s. session (plan_of (F.gravity forces.old) (option_copied course.now.expansion) course.now.params.now course.now.outputs.now) resumed s state) (world (S.file store.new) (S.closed store.new) (S.faults store.new) (S.last store.new) (F.state forces.new) (Q.yes stop.new) (Q.left stop.new)) t) }
+    ensures err { OnErr result ((A : World) → Matches (basis_of (F.gravity forces.old) course.now (S.tells store.old) A) (F.passes (F.gravity forces.old) (F.fixed forces.old)) (start_session state) state (world (S.file store.old) (S.closed store.old) (S.faults store.old) (S.last store.old) (F.state forces.old) (Q.yes stop.old) (Q.left stop.old)) → HasBroken (basis_of (F.gravity forces.old) course.now (S.tells store.old) A) (F.passes (F.gravity forces.old) (F.fixed forces.old)) (λ s. session (plan_of (F.gravity forces.old) (option_copied course.now.expansion) course.now.params.now course.now.outputs.now) resumed s state) (world (S.file store.new) (S.closed store.new) (S.faults store.new) (S.last store.new) (F.state forces.new) (Q.yes stop.new) (Q.left stop.new))) }
+{
+    let turn = match start::<F, S, Q>(alloc, course, resumed, state, store, stop) {
+        Ok(turn) => turn,
+        Err(failure) => return Err(failure),
+    };
+    match turn {
+        Turn::On(run) => match all_steps(alloc, course, run, forces, store, stop) {
+            Ok(turn) => Ok(turn),
+            Err(failure) => Err(failure),
+        },
+        Turn::Stopped(state) => Ok(Turn::Stopped(state)),
+        Turn::Refused(refusal) => Ok(Turn::Refused(refusal)),
+    }
+}
+
+// Whether the last tick was reached.
+fn is_done(turn: &Turn) -> bool
+    ensures { result ≡ came_to_last turn.now }
+{
+    match turn {
+        Turn::On(_) => true,
+        Turn::Stopped(_) => false,
+        Turn::Refused(_) => false,
+    }
+}
+
+// The session with the files that are kept open around it.
+fn make_session<F: Forces, S: Store, Q: Stopper>(
+    alloc: Global,
+    course: &Course,
+    resumed: bool,
+    state: State,
+    forces: &mut F,
+    store: &mut S,
+    stop: &mut Q,
+) -> Result<Turn, Failure>
+    requires forces { StandsFor (F.gravity forces.old) (setup_of course.now.params.now) }
+    requires setup { course.now.setup.now ≡ setup_of course.now.params.now }
+    requires spans { IfSome (option_copied course.now.expansion) (λ e. Reaches e (last_tick (setup_of course.now.params.now))) }
+    requires limits { IsParams course.now.params.now }
+    requires own { course.now.own.now ≡ own_files course.now.params.now resumed state }
+    requires begun { IsBegun (setup_of course.now.params.now) resumed state }
+    requires bodies { AreBodies state.bodies }
+    ensures tells { S.tells store.new ≡ S.tells store.old }
+    ensures leaves { SessionLeaves course.now.params.now resumed state (F.passes (F.gravity forces.old) (F.fixed forces.old)) (S.tells store.old) (λ s. session (plan_of (F.gravity forces.old) (option_copied course.now.expansion) course.now.params.now course.now.outputs.now) resumed s state) (world (S.file store.old) (S.closed store.old) (S.faults store.old) (S.last store.old) (F.state forces.old) (Q.yes stop.old) (Q.left stop.old)) (world (S.file store.new) (S.closed store.new) (S.faults store.new) (S.last store.new) (F.state forces.new) (Q.yes stop.new) (Q.left stop.new)) result }
+{
+    sessions_conserve();
+    match open_own(alloc, store, course.own) {
+        Ok(()) => {}
+        Err(failure) => return Err(failure),
+    }
+    let turn = match session_steps(alloc, course, resumed, state, forces, store, stop) {
+        Ok(turn) => turn,
+        Err(failure) => return Err(failure),
+    };
+    match finish_own(alloc, store, course.own, is_done(&turn)) {
+        Ok(()) => Ok(turn),
+        Err(failure) => Err(failure),
+    }
+}
+
+// What settings keep.
+fn limits(params: &Params)
+    ensures { IsParams params.now }
+{
+    let _time_max = params.time_max;
+}
+
+// The same from the settings.
+fn session_of<F: Forces, S: Store, Q: Stopper>(
+    alloc: Global,
+    state: State,
+    resumed: bool,
+    params: &Params,
+    expansion: Option<&Expansion>,
+    outputs: &[u64],
+    forces: &mut F,
+    store: &mut S,
+    stop: &mut Q,
+) -> Result<Turn, Failure>
+    requires forces { StandsFor (F.gravity forces.old) (setup_of params.now) }
+    requires begun { IsBegun (setup_of params.now) resumed state }
+    requires spans { IfSome (option_copied expansion) (λ e. Reaches e (last_tick (setup_of params.now))) }
+    requires bodies { AreBodies state.bodies }
+    ensures tells { S.tells store.new ≡ S.tells store.old }
+    ensures leaves { SessionLeaves params.now resumed state (F.passes (F.gravity forces.old) (F.fixed forces.old)) (S.tells store.old) (λ s. session (plan_of (F.gravity forces.old) (option_copied expansion.entry) params.now outputs.now) resumed s state) (world (S.file store.old) (S.closed store.old) (S.faults store.old) (S.last store.old) (F.state forces.old) (Q.yes stop.old) (Q.left stop.old)) (world (S.file store.new) (S.closed store.new) (S.faults store.new) (S.last store.new) (F.state forces.new) (Q.yes stop.new) (Q.left stop.new)) result }
+{
+    sessions_conserve();
+    limits(params);
+    let Ok(own) = own_names(alloc, params, resumed, &state) else {
         return Err(Failure::Memory);
     };
-    append_to(alloc, store, &params.kick_file, &lines)?;
-    count_kicks(run, &kicks.list);
-    Ok(refused)
-}
-
-// One base step with its synchronisation; or why it was refused.
-fn advance<F: Forces, S: Store>(
-    alloc: Global,
-    run: &mut Progress,
-    params: &Params,
-    expansion: Option<&Expansion>,
-    outputs: &[u64],
-    forces: &mut F,
-    store: &mut S,
-) -> Result<Option<Refusal>, Failure>
-    requires stands { IsTrue (S.tells store.old) → IsSome (S.file store.old params.now.kick_file) }
-    requires ready { IsReady (F.gravity forces.old) params.now (option_copied expansion) run.old }
-    requires early { run.old.tick < params.now.time_max }
-    ensures tells { S.tells store.new ≡ S.tells store.old }
-    ensures stands { OnOk result (IsTrue (S.tells store.old) → IsSome (S.file store.new params.now.kick_file)) }
-    ensures gravity { F.gravity forces.new ≡ F.gravity forces.old }
-    ensures ready { OnOkNone result (IsReady (F.gravity forces.old) params.now (option_copied expansion.entry) run.new) }
-    ensures advances { OnOkNone result (run.old.tick < run.new.tick) }
-    ensures later { S.faults store.old ≤ S.faults store.new }
-    ensures cause { IfErr result (HasFailed (S.faults store.old) (S.faults store.new) (S.last store.new)) }
-{
-    if let Some(refusal) = step_with_lines(alloc, run, params, expansion, forces, store)? {
-        return Ok(Some(refusal));
+    let setup = params.setup();
+    let course = Course {
+        params,
+        setup: &setup,
+        own: &own,
+        expansion,
+        outputs,
+    };
+    match make_session(alloc, &course, resumed, state, forces, store, stop) {
+        Ok(turn) => Ok(turn),
+        Err(failure) => Err(failure),
     }
-    let from = go_on(run, params);
-    synchronise(alloc, run, params, outputs, from, store)?;
-    Ok(None)
 }
 
-// The tick and the number of base steps after one more; and the first tick behind the former one.
-fn go_on(run: &mut Progress, params: &Params) -> u64
-    requires early { run.old.tick < params.now.time_max }
-    ensures set { run.new.set ≡ run.old.set }
-    ensures known { run.new.known ≡ run.old.known }
-    ensures tick { run.new.tick ≡ run.old.tick + 2 ^ params.now.top_bin }
-    ensures short { run.new.tick < 2 ^ 63 }
-    ensures later { run.old.tick < run.new.tick }
+// The momentum of all bodies together.
+fn momentum_of(set: &BodySet) -> [i128; 3]
+    ensures { result ≡ components (total set.now) }
 {
-    let ticks = 1u64 << params.top_bin;
-    let from = run.tick + 1;
-    run.tick += ticks;
-    run.steps = run.steps.wrapping_add(1);
-    from
+    let total = set.total_momentum();
+    [total[0], total[1], total[2]]
 }
 
-// Base steps until the last tick, or until one is refused.
-fn make_steps<F: Forces, S: Store>(
-    alloc: Global,
-    run: &mut Progress,
-    params: &Params,
-    expansion: Option<&Expansion>,
-    outputs: &[u64],
-    forces: &mut F,
-    store: &mut S,
-) -> Result<Option<Refusal>, Failure>
-    requires stands { IsTrue (S.tells store.old) → IsSome (S.file store.old params.now.kick_file) }
-    requires ready { IsReady (F.gravity forces.old) params.now (option_copied expansion) run.old }
-    ensures tells { S.tells store.new ≡ S.tells store.old }
-    ensures stands { OnOk result (IsTrue (S.tells store.old) → IsSome (S.file store.new params.now.kick_file)) }
-    ensures later { S.faults store.old ≤ S.faults store.new }
-    ensures cause { IfErr result (HasFailed (S.faults store.old) (S.faults store.new) (S.last store.new)) }
+// How a run ended that tells its end alone.
+fn told_end(end: End, momentum: [i128; 3]) -> Ended
+    ensures { result ≡ told_end end momentum }
 {
-    let time_max = params.time_max;
-    'steps: while run.tick < time_max {
-        if let Some(refusal) = advance(alloc, run, params, expansion, outputs, forces, store)? {
-            return Ok(Some(refusal));
-        }
+    Ended {
+        end,
+        tick: 0,
+        steps: 0,
+        snapshots: 0,
+        kicks: 0,
+        interactions: 0,
+        momentum,
     }
-    Ok(None)
 }
 
-// The whole session: the kick file is made first, and finished last where no file failed.
-fn make_session<F: Forces, S: Store>(
-    alloc: Global,
-    run: &mut Progress,
-    params: &Params,
-    expansion: Option<&Expansion>,
-    outputs: &[u64],
-    forces: &mut F,
-    store: &mut S,
-) -> Result<Option<Refusal>, Failure>
-    requires start { run.old.tick ≡ 0 }
-    requires ready { IsReady (F.gravity forces.old) params.now (option_copied expansion) run.old }
-    ensures later { S.faults store.old ≤ S.faults store.new }
-    ensures cause { IfErr result (HasFailed (S.faults store.old) (S.faults store.new) (S.last store.new)) }
+// How a run ended that tells its last state too.
+fn told_state(end: End, state: State, momentum: [i128; 3]) -> Ended
+    ensures { result ≡ told_state end state momentum }
 {
-    create_file(alloc, store, &params.kick_file)?;
-    synchronise(alloc, run, params, outputs, 0, store)?;
-    let refused = make_steps(alloc, run, params, expansion, outputs, forces, store)?;
-    close_file(alloc, store, &params.kick_file)?;
-    Ok(refused)
+    Ended {
+        end,
+        tick: state.tick,
+        steps: state.steps,
+        snapshots: state.next_snapshot,
+        kicks: state.kicks,
+        interactions: state.interactions,
+        momentum,
+    }
 }
 
-fn refused(refusal: Refusal) -> End
-    ensures { (before now : ℕ) (last : Option Call) → EndHasCause before now last result }
+fn end_of(refusal: Refusal) -> End
+    ensures { result ≡ end_of refusal }
 {
     match refusal {
         Refusal::MomRange {
@@ -348,54 +301,49 @@ fn refused(refusal: Refusal) -> End
     }
 }
 
-// How a session ended.
-fn end_of(made: Result<Option<Refusal>, Failure>) -> End
-    ensures { (before now : ℕ) (last : Option Call) → IfErr made (HasFailed before now last)
-        → EndHasCause before now last result }
+// How a run ended.
+fn ended_by(made: Result<Turn, Failure>, momentum: [i128; 3]) -> Ended
+    ensures { result ≡ ended_by made momentum }
 {
     match made {
-        Ok(None) => End::Done,
-        Ok(Some(refusal)) => refused(refusal),
-        Err(Failure::WriteFault { name }) => End::WriteFault { name },
-        Err(Failure::Memory) => End::Memory,
+        Ok(Turn::On(run)) => told_state(End::Done, run.state, momentum),
+        Ok(Turn::Stopped(state)) => told_state(End::Stopped, state, momentum),
+        Ok(Turn::Refused(refusal)) => told_end(end_of(refusal), momentum),
+        Err(Failure::WriteFault { name }) => told_end(End::WriteFault { name }, momentum),
+        Err(Failure::Memory) => told_end(End::Memory, momentum),
     }
 }
 
-/// A run from tick 0 on, by the forces that are found and by a table of factors if there is one. The kick file is made first; then base steps are made
-/// while the tick is below `TimeMax`, a snapshot is written where a listed time has come and at the end, and
-/// the lines of each base step's kicks stand in the kick file before its snapshot is made. The set is spent.
-pub fn run<F: Forces, S: Store>(
+/// A run by the forces that are found and by a table of factors if there is one, from a state on: one in which nothing was
+/// done, at tick 0, or, where it is resumed, one that a restart file keeps.
+///
+/// The kick file, the trace file where ranks are traced, and the bin file where one is named and the run isn't resumed are
+/// made first and finished last. Base steps are made while the tick is below `TimeMax`; a rest state's base step is finished
+/// first. What happened in a base step stands in those files before the snapshot and the restart file that follow it. The
+/// stopper is asked at resting points and at synchronisations; after a yes a restart file stands, and the run ends. What is
+/// told beside the end and the momentum is that of the last state on `Done` and `Stopped`, and else 0.
+pub fn run<F: Forces, S: Store, Q: Stopper>(
     alloc: Global,
-    set: BodySet,
+    state: State,
+    resumed: bool,
     params: &Params,
     expansion: Option<&Expansion>,
     outputs: &[u64],
     forces: &mut F,
     store: &mut S,
+    stop: &mut Q,
 ) -> Ended
     requires forces { StandsFor (F.gravity forces.old) (setup_of params.now) }
+    requires begun { IsBegun (setup_of params.now) resumed state }
     requires spans { IfSome (option_copied expansion) (λ e. Reaches e (last_tick (setup_of params.now))) }
-    ensures later { S.faults store.old ≤ S.faults store.new }
-    ensures cause { EndHasCause (S.faults store.old) (S.faults store.new) (S.last store.new) result.end }
+    ensures tells { S.tells store.new ≡ S.tells store.old }
+    ensures ends { RunEnds (plan_of (F.gravity forces.old) (option_copied expansion.entry) params.now outputs.now) params.now resumed state (F.passes (F.gravity forces.old) (F.fixed forces.old)) (S.tells store.old) (record { files = S.file store.old; closed = S.closed store.old; faults = S.faults store.old; last = S.last store.old; state = F.state forces.old; yes = Q.yes stop.old; left = Q.left stop.old }) (record { files = S.file store.new; closed = S.closed store.new; faults = S.faults store.new; last = S.last store.new; state = F.state forces.new; yes = Q.yes stop.new; left = Q.left stop.new }) result }
 {
-    let mut run = Progress {
-        set,
-        known: None,
-        tick: 0,
-        steps: 0,
-        snapshots: 0,
-        kicks: 0,
-        interactions: 0,
-    };
-    let made = make_session(alloc, &mut run, params, expansion, outputs, forces, store);
-    let end = end_of(made);
-    Ended {
-        end,
-        tick: run.tick,
-        steps: run.steps,
-        snapshots: run.snapshots,
-        kicks: run.kicks,
-        interactions: run.interactions,
-        momentum: run.set.total_momentum(),
-    }
+    let set = &state.set;
+    keep_limits(set.bodies());
+    let momentum = momentum_of(set);
+    let made = session_of(
+        alloc, state, resumed, params, expansion, outputs, forces, store, stop,
+    );
+    ended_by(made, momentum)
 }

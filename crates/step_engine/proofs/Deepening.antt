@@ -11,7 +11,7 @@ use Rattle.kick_drift.proofs.Rising.{has-image}
 use Rattle.kick_drift.proofs.Chosen.{id_at, id_at_is, keeps_apart, blank}
 use Rattle.step_engine.specs.declared.halt.Halt.{Halt}
 use Rattle.step_engine.specs.declared.halt.Halt.TheVariants as halts
-use Rattle.step_engine.specs.Taken.{Taken}
+use Rattle.step_engine.specs.Taken.{Taken, Tale}
 use Rattle.step_engine.specs.Told.{Finder}
 use Rattle.step_engine.specs.Stands.{Now, IsAt}
 use Rattle.step_engine.specs.Deeper.{IsDeeper, HasRoom, DeepensBy}
@@ -61,28 +61,28 @@ room_of n T halts.OutFault fast A Z s w c = tt
 room_of n T halts.Memory fast A Z s w c = tt
 
 module _ (passes : Finder) where
-  deep_at : (a : List ℕ) (before : Option (List Taken)) (K : List Taken → Type 0) (p : Progress) (Z : Now) (D : List ℕ) → IsAt passes a before K p Z → IsAt passes a before K p (record Z { depth = D })
+  pub deep_at : (a : List ℕ) (before : Tale) (K : List Taken → Type 0) (p : Progress) (Z : Now) (D : List ℕ) → IsAt passes a before K p Z → IsAt passes a before K p (record Z { depth = D })
   deep_at a before K p Z D w = record { entries = w.entries; bodies = w.bodies; told = w.told; took = w.took; kind = w.kind; kicks = w.kicks; interactions = w.interactions }
 
-  deep_goes : (a : List ℕ) (before : Option (List Taken)) (Gs : List (List ℕ)) (s : Stepped) (Z : Now) → GoesTo passes a before s Z → GoesTo passes a before (inside Gs s) Z
+  pub deep_goes : (a : List ℕ) (before : Tale) (Gs : List (List ℕ)) (s : Stepped) (Z : Now) → GoesTo passes a before s Z → GoesTo passes a before (inside Gs s) Z
   deep_goes a before Gs (Going p) Z h = h
   deep_goes a before Gs (Refused p e) Z h = absurd h
   deep_goes a before Gs (Resting p u Fs) Z h = absurd h
 
-  deep_refused : (a : List ℕ) (before : Option (List Taken)) (why : Refusal) (Gs : List (List ℕ)) (s : Stepped) (Z : Now) (D : List ℕ) → IsRefused passes a before why s Z → IsRefused passes a before why (inside Gs s) (record Z { depth = D })
+  pub deep_refused : (a : List ℕ) (before : Tale) (why : Refusal) (Gs : List (List ℕ)) (s : Stepped) (Z : Now) (D : List ℕ) → IsRefused passes a before why s Z → IsRefused passes a before why (inside Gs s) (record Z { depth = D })
   deep_refused a before why Gs (Going p) Z D h = absurd h
   deep_refused a before why Gs (Refused p e) Z D h = (h.0, deep_at a before NoYes p Z D h.1)
   deep_refused a before why Gs (Resting p u Fs) Z D h = absurd h
 
-  deep_trail : (Gs : List (List ℕ)) (s : Stepped) → trail_of (inside Gs s) ≡ trail_of s
+  pub deep_trail : (Gs : List (List ℕ)) (s : Stepped) → trail_of (inside Gs s) ≡ trail_of s
   deep_trail Gs (Going p) = refl
   deep_trail Gs (Refused p e) = refl
   deep_trail Gs (Resting p u Fs) = refl
 
-  deep_cut : (a : List ℕ) (before : Option (List Taken)) (Gs : List (List ℕ)) (s : Stepped) (Z : Now) (D : List ℕ) → IsCut passes a before (trail_of s) Z → IsCut passes a before (trail_of (inside Gs s)) (record Z { depth = D })
+  pub deep_cut : (a : List ℕ) (before : Tale) (Gs : List (List ℕ)) (s : Stepped) (Z : Now) (D : List ℕ) → IsCut passes a before (trail_of s) Z → IsCut passes a before (trail_of (inside Gs s)) (record Z { depth = D })
   deep_cut a before Gs s Z D c = record { first = c.first; later = c.later; parts = deep_trail Gs s ∙ c.parts; entries = c.entries; state = c.state; told = c.told; took = c.took; kind = c.kind }
 
-  deep_rests : (a : List ℕ) (before : Option (List Taken)) (n u : ℕ) (fast : List ℕ) (s : Stepped) (Z : Now) (D : List ℕ) → AreBodies Z.bodies → AreAscending Z.bodies fast → IsDeeper fast Z.depth D → Rests passes a before n u s Z →
+  deep_rests : (a : List ℕ) (before : Tale) (n u : ℕ) (fast : List ℕ) (s : Stepped) (Z : Now) (D : List ℕ) → AreBodies Z.bodies → AreAscending Z.bodies fast → IsDeeper fast Z.depth D → Rests passes a before n u s Z →
       Rests passes a before (n + 1) u (inside (ids_at Z.bodies fast ∷ []) s) (record Z { depth = D })
   deep_rests a before n u fast (Going p) Z D b k d h = absurd h
   deep_rests a before n u fast (Refused p e) Z D b k d h = absurd h
@@ -96,7 +96,7 @@ module _ (passes : Finder) where
         deep_at a before (LastYes u) p Z D h.1,
       )
 
-  deep_shown : (T : Type 0) (a : List ℕ) (before : Option (List Taken)) (n f t : ℕ) (fast : List ℕ) (X : Option ℕ → Stepped) (h : Halt) (Z : Now) (D : List ℕ) → AreBodies Z.bodies → AreAscending Z.bodies fast → DeepensBy h fast Z.depth D →
+  deep_shown : (T : Type 0) (a : List ℕ) (before : Tale) (n f t : ℕ) (fast : List ℕ) (X : Option ℕ → Stepped) (h : Halt) (Z : Now) (D : List ℕ) → AreBodies Z.bodies → AreAscending Z.bodies fast → DeepensBy h fast Z.depth D →
       Shows {T = T} passes a before n f t X (Err h) Z → Shows {T = T} passes a before (n + 1) f t (λ stop. inside (ids_at Z.bodies fast ∷ []) (X stop)) (Err h) (record Z { depth = D })
   deep_shown T a before n f t fast X (halts.MomRange tick bin id axis) Z D b k d s = deep_refused a before (MomRange tick bin id axis) (ids_at Z.bodies fast ∷ []) (X None) Z D s
   deep_shown T a before n f t fast X (halts.StepRange tick id) Z D b k d s = deep_refused a before (StepRange tick id) (ids_at Z.bodies fast ∷ []) (X None) Z D s

@@ -6,7 +6,7 @@ use Rattle.nbody_model.specs.Evolve.{Happening, Progress, Stepped, Going, Refuse
 use Rattle.model_laws.specs.Conserved.{IsConserved}
 use Rattle.step_engine.specs.declared.halt.Halt.{Halt}
 use Rattle.step_engine.specs.declared.halt.Halt.TheVariants as halts
-use Rattle.step_engine.specs.Taken.{Taken}
+use Rattle.step_engine.specs.Taken.{Tale}
 use Rattle.step_engine.specs.Told.{Finder}
 use Rattle.step_engine.specs.Stands.{Now, IsAt}
 use Rattle.step_engine.specs.Ends.{NoYes, trail_of, GoesTo, IsRefused, Rests, IsCut, IsOutside, Shows, IsStill, HasCause, Makes}
@@ -28,7 +28,7 @@ conserved_on A B C h k = record { bodies = k.bodies; same = k.same ∙ h.same; m
 
 module _ (passes : Finder) where
   -- what goes on has what holds of the rest
-  at : (a : List ℕ) (before : Option (List Taken)) (s : Stepped) (M : Now) (Q : Stepped → Type 0) (f : Progress → Stepped) → GoesTo passes a before s M → ((q : Progress) → IsAt passes a before NoYes q M → Q (f q)) → Q (s >>= f)
+  at : (a : List ℕ) (before : Tale) (s : Stepped) (M : Now) (Q : Stepped → Type 0) (f : Progress → Stepped) → GoesTo passes a before s M → ((q : Progress) → IsAt passes a before NoYes q M → Q (f q)) → Q (s >>= f)
   at a before (Going q) M Q f h k = k q h
   at a before (Refused q e) M Q f h k = absurd h
   at a before (Resting q u Fs) M Q f h k = absurd h
@@ -43,7 +43,7 @@ module _ (passes : Finder) where
   later f1 f2 t2 (Some u) h (inl o) = inl (omega (arith, o, h))
   later f1 f2 t2 (Some u) h (inr o) = inr o
 
-  shown : {U : Type 0} (a : List ℕ) (before : Option (List Taken)) (n f1 t1 f2 t2 : ℕ) (X : Option ℕ → Stepped) (Y : Option ℕ → Progress → Stepped) (answer : Result U Halt) (M Z : Now) →
+  shown : {U : Type 0} (a : List ℕ) (before : Tale) (n f1 t1 f2 t2 : ℕ) (X : Option ℕ → Stepped) (Y : Option ℕ → Progress → Stepped) (answer : Result U Halt) (M Z : Now) →
       f1 ≤ f2 → t1 ≤ t2 → t1 ≤ f2 + 1 → ((stop : Option ℕ) → IsOutside f1 t1 stop → GoesTo passes a before (X stop) M) →
       ((q : Progress) → IsAt passes a before NoYes q M → Shows passes a before n f2 t2 (λ stop. Y stop q) answer Z) → Shows passes a before n f1 t2 (λ stop. X stop >>= Y stop) answer Z
   shown a before n f1 t1 f2 t2 X Y (Ok x) M Z h k l g m = λ stop o. at a before (X stop) M (λ s. GoesTo passes a before s Z) (Y stop) (g stop (earlier f1 t1 f2 t2 stop h k o)) (λ q w. m q w stop (later f1 f2 t2 stop h o))
@@ -83,12 +83,12 @@ module _ (passes : Finder) where
   }
 
   -- a part that isn't made to its end
-  refused_on : (a : List ℕ) (before : Option (List Taken)) (why : Refusal) (s : Stepped) (f : Progress → Stepped) (Z : Now) → IsRefused passes a before why s Z → IsRefused passes a before why (s >>= f) Z
+  refused_on : (a : List ℕ) (before : Tale) (why : Refusal) (s : Stepped) (f : Progress → Stepped) (Z : Now) → IsRefused passes a before why s Z → IsRefused passes a before why (s >>= f) Z
   refused_on a before why (Going p) f Z h = absurd h
   refused_on a before why (Refused p e) f Z h = h
   refused_on a before why (Resting p u Fs) f Z h = absurd h
 
-  rests_on : (a : List ℕ) (before : Option (List Taken)) (n u : ℕ) (s : Stepped) (f : Progress → Stepped) (Z : Now) → Rests passes a before n u s Z → Rests passes a before n u (s >>= f) Z
+  rests_on : (a : List ℕ) (before : Tale) (n u : ℕ) (s : Stepped) (f : Progress → Stepped) (Z : Now) → Rests passes a before n u s Z → Rests passes a before n u (s >>= f) Z
   rests_on a before n u (Going p) f Z h = absurd h
   rests_on a before n u (Refused p e) f Z h = absurd h
   rests_on a before n u (Resting p v Fs) f Z h = h
@@ -98,10 +98,10 @@ module _ (passes : Finder) where
   adds_on (Refused p e) f k = record { more = []; is = sym (append-nil p.trail) }
   adds_on (Resting p u Fs) f k = record { more = []; is = sym (append-nil p.trail) }
 
-  pub cut_on : (a : List ℕ) (before : Option (List Taken)) (xs ys : List Happening) (Z : Now) → More xs ys → IsCut passes a before xs Z → IsCut passes a before ys Z
+  pub cut_on : (a : List ℕ) (before : Tale) (xs ys : List Happening) (Z : Now) → More xs ys → IsCut passes a before xs Z → IsCut passes a before ys Z
   cut_on a before xs ys Z m c = record { first = c.first; later = c.later ++ m.more; parts = m.is ∙ ap (λ zs. zs ++ m.more) c.parts ∙ append_assoc c.first c.later m.more; entries = c.entries; state = c.state; told = c.told; took = c.took; kind = c.kind }
 
-  halted_shown : (T U : Type 0) (a : List ℕ) (before : Option (List Taken)) (n f1 t1 f t : ℕ) (X : Option ℕ → Stepped) (Y : Option ℕ → Progress → Stepped) (e : Halt) (Z : Now) →
+  halted_shown : (T U : Type 0) (a : List ℕ) (before : Tale) (n f1 t1 f t : ℕ) (X : Option ℕ → Stepped) (Y : Option ℕ → Progress → Stepped) (e : Halt) (Z : Now) →
       f ≤ f1 → t1 ≤ t → OnlyAdds (Y None) → Shows {T = T} passes a before n f1 t1 X (Err e) Z → Shows {T = U} passes a before n f t (λ stop. X stop >>= Y stop) (Err e) Z
   halted_shown T U a before n f1 t1 f t X Y (halts.MomRange tick bin id axis) Z h k l s = refused_on a before (MomRange tick bin id axis) (X None) (Y None) Z s
   halted_shown T U a before n f1 t1 f t X Y (halts.StepRange tick id) Z h k l s = refused_on a before (StepRange tick id) (X None) (Y None) Z s
@@ -130,7 +130,7 @@ module _ (passes : Finder) where
 
   -- ---- the same part, otherwise said
 
-  same_shown : {T : Type 0} (a : List ℕ) (before : Option (List Taken)) (n f t : ℕ) (X Y : Option ℕ → Stepped) (answer : Result T Halt) (Z : Now) → ((stop : Option ℕ) → X stop ≡ Y stop) → Shows passes a before n f t Y answer Z → Shows passes a before n f t X answer Z
+  same_shown : {T : Type 0} (a : List ℕ) (before : Tale) (n f t : ℕ) (X Y : Option ℕ → Stepped) (answer : Result T Halt) (Z : Now) → ((stop : Option ℕ) → X stop ≡ Y stop) → Shows passes a before n f t Y answer Z → Shows passes a before n f t X answer Z
   same_shown a before n f t X Y answer Z e s = subst (λ W. Shows passes a before n f t W answer Z) (λ i stop. sym (e stop) i) s
 
   pub same : {T : Type 0} (n most f t : ℕ) (X Y : Option ℕ → Progress → Stepped) (answer : Result T Halt) (A Z : Now) → ((stop : Option ℕ) (p : Progress) → p.bodies ≡ A.bodies → X stop p ≡ Y stop p) → Makes passes n most f t Y answer A Z → Makes passes n most f t X answer A Z
@@ -148,7 +148,7 @@ module _ (passes : Finder) where
   pub valued : {T U : Type 0} (n most f t : ℕ) (X : Option ℕ → Progress → Stepped) (x : T) (y : U) (A Z : Now) → Makes {T = T} passes n most f t X (Ok x) A Z → Makes {T = U} passes n most f t X (Ok y) A Z
   valued n most f t X x y A Z one = record { gravity = one.gravity; fixed = one.fixed; conserved = one.conserved; cause = one.cause; few = one.few; counted = one.counted; shows = one.shows }
 
-  halt_shown : (T U : Type 0) (a : List ℕ) (before : Option (List Taken)) (n f t : ℕ) (X : Option ℕ → Stepped) (e : Halt) (Z : Now) → Shows {T = T} passes a before n f t X (Err e) Z → Shows {T = U} passes a before n f t X (Err e) Z
+  halt_shown : (T U : Type 0) (a : List ℕ) (before : Tale) (n f t : ℕ) (X : Option ℕ → Stepped) (e : Halt) (Z : Now) → Shows {T = T} passes a before n f t X (Err e) Z → Shows {T = U} passes a before n f t X (Err e) Z
   halt_shown T U a before n f t X (halts.MomRange tick bin id axis) Z s = s
   halt_shown T U a before n f t X (halts.StepRange tick id) Z s = s
   halt_shown T U a before n f t X (halts.Rest u) Z s = s

@@ -1,5 +1,6 @@
 -- What one call makes of a step.
 use Rattle.std.proofs.Common.{◌≡◌, ◌≤◌, ◌==◌, inl, inr, ℕ, ◌+◌, ◌-◌, ◌*◌, ◌^◌, Bool, true, false, cond, List, [], ◌∷◌, ◌++◌, length, sum_by, Option, Some, None, Ok, Err, refl, ap, sym, ◌∙◌, subst, arith, append_assoc, length-append, ⊎_elim, suc}
+use Rattle.std.specs.Prelude.{IsTrue}
 use Rattle.std.specs.List.{AllByRecursion}
 use Rattle.std.proofs.lemmas.Grind.{flat_map-append}
 use Rattle.std.proofs.lemmas.List.{append-nil}
@@ -20,7 +21,7 @@ use Rattle.model_laws.specs.Laws.{AreBodies}
 use Rattle.model_laws.specs.Conserved.{IsConserved}
 use Rattle.model_laws.proofs.Among.{each-append}
 use Rattle.step_engine.specs.declared.halt.Halt.TheVariants as halts
-use Rattle.step_engine.specs.Taken.{Taken, TookForces, TookKick, TookRest, Adds, AddsPart}
+use Rattle.step_engine.specs.Taken.{Taken, Tale, TookForces, TookKick, TookRest, Adds, AddsPart}
 use Rattle.step_engine.specs.Told.{Finder, AreForcesAmong, Tells, events_in, IsNoYes, IsTold}
 use Rattle.step_engine.specs.Stands.{Now, IsAt}
 use Rattle.step_engine.specs.Halts.{halt_for}
@@ -28,20 +29,14 @@ use Rattle.step_engine.specs.Ends.{NoYes, trail_of, GoesTo, IsRefused, Rests, Is
 use Rattle.step_engine.proofs.Telling.{told_quiet, told_asked}
 use Rattle.step_engine.proofs.Joins.{More, OnlyAdds}
 
-pub adds_more : (before t u : Option (List Taken)) (entries more : List Taken) → Adds before t entries → Adds t u more → Adds before u (entries ++ more)
-adds_more None None None entries more h k = tt
-adds_more None None (Some w) entries more h k = absurd k
-adds_more None (Some v) u entries more h k = absurd h
-adds_more (Some old) None u entries more h k = absurd h
-adds_more (Some old) (Some v) None entries more h k = absurd k
-adds_more (Some old) (Some v) (Some w) entries more h k = k ∙ ap (λ xs. xs ++ more) h ∙ append_assoc old entries more
+pub adds_more : (before t u : Tale) (entries more : List Taken) → Adds before t entries → Adds t u more → Adds before u (entries ++ more)
+adds_more before t u entries more h k = λ left earlier was. subst (λ xs. IsTrue (u left xs)) (append_assoc earlier entries more) (k left (earlier ++ entries) (h left earlier was))
 
-pub adds_none : (before t u : Option (List Taken)) (entries : List Taken) → Adds before t entries → Adds t u [] → Adds before u entries
+pub adds_none : (before t u : Tale) (entries : List Taken) → Adds before t entries → Adds t u [] → Adds before u entries
 adds_none before t u entries h k = subst (Adds before u) (append-nil entries) (adds_more before t u entries [] h k)
 
-pub adds_nothing : (t : Option (List Taken)) → Adds t t []
-adds_nothing None = tt
-adds_nothing (Some xs) = sym (append-nil xs)
+pub adds_nothing : (t : Tale) → Adds t t []
+adds_nothing t = λ left earlier was. subst (λ xs. IsTrue (t left xs)) (sym (append-nil earlier)) was
 
 records_more : (trail : List Happening) (what : Happening) → record_in what ≡ [] → records_of (trail ++ what ∷ []) ≡ records_of trail
 records_more trail what e = flat_map-append record_in trail (what ∷ []) ∙ ap (λ xs. records_of trail ++ (xs ++ [])) e ∙ append-nil (records_of trail)
@@ -94,7 +89,7 @@ module _ (passes : Finder) where
 
   -- ---- a call that halts
 
-  cut_shown : (T : Type 0) (a : List ℕ) (before : Option (List Taken)) (n f t : ℕ) (X : Option ℕ → Stepped) (e : IoErr) (Z : Now) → IsCut passes a before (trail_of (X None)) Z → Shows {T = T} passes a before n f t X (Err (halt_for e)) Z
+  cut_shown : (T : Type 0) (a : List ℕ) (before : Tale) (n f t : ℕ) (X : Option ℕ → Stepped) (e : IoErr) (Z : Now) → IsCut passes a before (trail_of (X None)) Z → Shows {T = T} passes a before n f t X (Err (halt_for e)) Z
   cut_shown T a before n f t X ios.Failed Z c = c
   cut_shown T a before n f t X ios.Memory Z c = c
 
@@ -103,7 +98,7 @@ module _ (passes : Finder) where
   cut_cause T n most ios.Memory A Z l c = record { faults = c.kept refl; yes = l.yes; depth = l.depth }
 
   -- the last thing told is there or not
-  cut_at : (a : List ℕ) (before : Option (List Taken)) (what : Progress → Happening) (entry : Taken) (p : Progress) (trail : List Happening) (A Z : Now) → Z.gravity ≡ A.gravity → Z.fixed ≡ A.fixed → More (p.trail ++ what p ∷ []) trail → Tellable what entry A Z → IsNoYes entry →
+  cut_at : (a : List ℕ) (before : Tale) (what : Progress → Happening) (entry : Taken) (p : Progress) (trail : List Happening) (A Z : Now) → Z.gravity ≡ A.gravity → Z.fixed ≡ A.fixed → More (p.trail ++ what p ∷ []) trail → Tellable what entry A Z → IsNoYes entry →
       IsAt passes a before NoYes p A → AddsPart A.took Z.took entry → IsCut passes a before trail Z
   cut_at a before what entry p trail A Z g f m t n w (inl k) = record {
     first = p.trail ++ what p ∷ [];
@@ -190,7 +185,7 @@ module _ (passes : Finder) where
   kicked_to r bin P F tick h p =
       let C = kicked_bodies h P (change r.gravity P F p.bodies) p.bodies in tell (Kicked (record_of r tick bin P F p.bodies C)) (record p { bodies = C })
 
-  kick_refused_shown : (a : List ℕ) (before : Option (List Taken)) (r : Rules) (bin : ℕ) (P F : List ℕ) (tick h : ℕ) (p : Progress) (id axis : ℕ) (A Z : Now) → r.gravity ≡ A.gravity →
+  kick_refused_shown : (a : List ℕ) (before : Tale) (r : Rules) (bin : ℕ) (P F : List ℕ) (tick h : ℕ) (p : Progress) (id axis : ℕ) (A Z : Now) → r.gravity ≡ A.gravity →
       cond (h == 0) None (first_out (only (kicked_bodies h P (change A.gravity P F A.bodies) A.bodies) P)) ≡ Some (id, axis) → IsAt passes a before NoYes p Z → p.bodies ≡ A.bodies → IsRefused passes a before (MomRange tick bin id axis) (kick r bin P F tick h p) Z
   unfolding kick
   kick_refused_shown a before r bin P F tick h p id axis A Z g e w b =
@@ -239,7 +234,7 @@ module _ (passes : Finder) where
   acts_more trail entry =
       omega (arith, ap (sum_by (λ k. k.pairs + k.fast_pairs)) (flat_map-append record_in trail (Kicked entry ∷ [])), sum_by-append (λ (k : Record). k.pairs + k.fast_pairs) (records_of trail) (entry ∷ []))
 
-  kicked_shown : (a : List ℕ) (before : Option (List Taken)) (entry : Record) (p : Progress) (A Z : Now) → Leads 1 A Z → Tellable (λ p. Kicked entry) (TookKick entry) A Z → Adds A.took Z.took (TookKick entry ∷ []) →
+  kicked_shown : (a : List ℕ) (before : Tale) (entry : Record) (p : Progress) (A Z : Now) → Leads 1 A Z → Tellable (λ p. Kicked entry) (TookKick entry) A Z → Adds A.took Z.took (TookKick entry ∷ []) →
       Z.kicks ≡ A.kicks + 1 → Z.interactions ≡ A.interactions + (entry.pairs + entry.fast_pairs) → IsAt passes a before NoYes p A → IsAt passes a before NoYes (tell (Kicked entry) (record p { bodies = Z.bodies })) Z
   kicked_shown a before entry p A Z l t adds k n w = record {
     entries = w.entries ++ TookKick entry ∷ [];
@@ -285,7 +280,7 @@ module _ (passes : Finder) where
 
   -- ---- a resting point
 
-  rest_goes : (a : List ℕ) (before : Option (List Taken)) (tick : ℕ) (stop : Option ℕ) (p : Progress) (Z : Now) → IsOutside (tick - 1) (tick + 1) stop → 1 ≤ tick → IsAt passes a before NoYes (tell (Rested tick) p) Z → GoesTo passes a before (rest stop tick p) Z
+  rest_goes : (a : List ℕ) (before : Tale) (tick : ℕ) (stop : Option ℕ) (p : Progress) (Z : Now) → IsOutside (tick - 1) (tick + 1) stop → 1 ≤ tick → IsAt passes a before NoYes (tell (Rested tick) p) Z → GoesTo passes a before (rest stop tick p) Z
   rest_goes a before tick None p Z o some w = w
   rest_goes a before tick (Some s) p Z o some w =
       let other : (s == tick) ≡ false = ne_eqb s tick (λ e. ⊎_elim (λ h. omega (arith, h, e, some)) (λ h. omega (arith, h, e)) o) in
@@ -315,7 +310,7 @@ module _ (passes : Finder) where
   lower_each n m (x ∷ xs) h a = (omega (arith, h, a.0), lower_each n m xs h a.1)
 
   -- the answer was yes
-  pub rest_taken : (T : Type 0) (n tick : ℕ) (A : Now) (faults yeses : ℕ) (took : Option (List Taken)) → 1 ≤ tick → AreBodies A.bodies → A.depth ≡ depths_of [] A.bodies → Adds A.took took (TookRest tick true ∷ []) → faults ≡ A.faults → Rose A.yes yeses →
+  pub rest_taken : (T : Type 0) (n tick : ℕ) (A : Now) (faults yeses : ℕ) (took : Tale) → 1 ≤ tick → AreBodies A.bodies → A.depth ≡ depths_of [] A.bodies → Adds A.took took (TookRest tick true ∷ []) → faults ≡ A.faults → Rose A.yes yeses →
       Makes {T = T} passes n 0 (tick - 1) (tick + 1) (λ stop p. rest stop tick p) (Err (halts.Rest tick)) A (record A { faults = faults; yes = yeses; took = took })
   rest_taken T n tick A faults yeses took some b d adds f rose =
       let Z : Now = record A { faults = faults; yes = yeses; took = took } in

@@ -12,3 +12,7 @@ pub mod Stepping
 pub mod Deepening
 pub mod Ending
 pub mod Whole
+pub mod Ticks
+pub mod Layers
+pub mod Outer
+pub mod Resuming

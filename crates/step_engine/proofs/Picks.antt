@@ -21,7 +21,7 @@ rises_from n (p ∷ ps) up low = (
   rises_from (p + 1) ps (λ k lt. rises (p ∷ ps) up (suc k) (suc (k + 1)) (omega arith) (omega (arith, lt))) (λ k lt. omega (arith, rises (p ∷ ps) up 0 (suc k) (omega arith) (omega (arith, lt)))),
 )
 
-has_below : (n : ℕ) (ps : List ℕ) (m : ℕ) → RisesFrom n ps → m < n → has ps m ≡ false
+pub has_below : (n : ℕ) (ps : List ℕ) (m : ℕ) → RisesFrom n ps → m < n → has ps m ≡ false
 has_below n [] m r lt = refl
 has_below n (p ∷ ps) m r lt = ap (λ t. t || has ps m) (not_same p m (λ e. omega (arith, e, r.0, lt))) ∙ has_below (p + 1) ps m r.1 (omega (arith, r.0, lt))
 

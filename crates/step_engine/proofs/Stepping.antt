@@ -19,7 +19,7 @@ use Rattle.step_engine.specs.Ends.{NoYes, trail_of, IsRefused, Makes}
 use Rattle.step_engine.proofs.Times.{twice}
 use Rattle.step_engine.proofs.Joins.{joined, halted, same, More, OnlyAdds, all_there, conserved_on}
 use Rattle.step_engine.proofs.Leaves.{Leads, wanting}
-use Rattle.step_engine.specs.Taken.{Taken}
+use Rattle.step_engine.specs.Taken.{Tale}
 use Rattle.step_engine.proofs.Deepening.{deepened, passed}
 use Rattle.step_engine.specs.Deeper.{DeepensBy}
 use Rattle.step_engine.proofs.Keeps.{same_places, ascending_on}
@@ -286,7 +286,7 @@ module _ (passes : Finder) where
   pub evolve_wants : {T : Type 0} (r : Rules) (bin : ℕ) (P : List ℕ) (t : ℕ) (A Z : Now) → Leads (most_of bin) A Z → Z.took ≡ A.took → Z.faults ≡ A.faults → Makes {T = T} passes bin (most_of bin) t (t + 2 ^ bin) (λ stop p. evolve r stop bin P t p) (Err halts.Memory) A Z
   evolve_wants {T = T} r bin P t A Z l k f = wanting passes T bin (most_of bin) t (t + 2 ^ bin) (λ stop p. evolve r stop bin P t p) A Z l (evolve_adds r bin P t) k f
 
-  refused_shown : (a : List ℕ) (before : Option (List Taken)) (r : Rules) (bin : ℕ) (P F : List ℕ) (t : ℕ) (p : Progress) (A : Now) → (bin == r.gravity.setup.low_bin && not (is_empty F)) ≡ true → IsAt passes a before NoYes p A →
+  refused_shown : (a : List ℕ) (before : Tale) (r : Rules) (bin : ℕ) (P F : List ℕ) (t : ℕ) (p : Progress) (A : Now) → (bin == r.gravity.setup.low_bin && not (is_empty F)) ≡ true → IsAt passes a before NoYes p A →
       IsRefused passes a before (StepRange t (slice_index F 0)) (step_with r bin P t None p F) A
   refused_shown a before r bin P F t p A e w = subst (λ c. IsRefused passes a before (StepRange t (slice_index F 0)) (cond c (Refused p (StepRange t (slice_index F 0))) (from_told r bin P F t None (tell (Binned F) p))) A) (sym e) (refl, w)
 

@@ -11,7 +11,7 @@ use Rattle.model_laws.specs.Nests.{ids_of}
 use Rattle.step_engine.specs.declared.step_end.StepCount.{StepCount}
 use Rattle.step_engine.specs.declared.step_end.StepEnd.{StepEnd}
 use Rattle.step_engine.specs.declared.step_end.StepEnd.TheVariants as ends
-use Rattle.step_engine.specs.Taken.{Taken, Adds}
+use Rattle.step_engine.specs.Taken.{Taken, Tale, Adds}
 use Rattle.step_engine.specs.Told.{Passes, AreForcesAmong, IsTold}
 use Rattle.step_engine.specs.Ends.{NoYes, LastYes, trail_of, IsOutside}
 
@@ -31,7 +31,7 @@ is_known (Some f) = true
 pub record Seen : Type 0 where
   pub bodies : List BodyData
   pub state : List ℕ
-  pub took : Option (List Taken)
+  pub took : Tale
 
 -- the progress p stands here; from A on what happened was told, the forces that were asked were found one after another, and
 -- the entries that were taken are of some kind

@@ -6,7 +6,7 @@ use Rattle.nbody_model.specs.Evolve.{Happening, Progress, Stepped, Going, Refuse
 use Rattle.model_laws.specs.Conserved.{IsConserved}
 use Rattle.step_engine.specs.declared.halt.Halt.{Halt}
 use Rattle.step_engine.specs.declared.halt.Halt.TheVariants as halts
-use Rattle.step_engine.specs.Taken.{Taken, TookRest, Adds}
+use Rattle.step_engine.specs.Taken.{Taken, Tale, TookRest, Adds}
 use Rattle.step_engine.specs.Told.{Finder, IsNoYes, IsTold}
 use Rattle.step_engine.specs.Stands.{Now, IsAt}
 
@@ -24,13 +24,13 @@ trail_of (Refused p e) = p.trail
 trail_of (Resting p tick Fs) = p.trail
 
 -- it goes on, and stands here
-abbrev pub GoesTo : Finder → List ℕ → Option (List Taken) → Stepped → Now → Type 0
+abbrev pub GoesTo : Finder → List ℕ → Tale → Stepped → Now → Type 0
 GoesTo passes a before (Going p) Z = IsAt passes a before NoYes p Z
 GoesTo passes a before (Refused p e) Z = ⊥
 GoesTo passes a before (Resting p tick Fs) Z = ⊥
 
 -- it is refused, and stands here
-abbrev pub IsRefused : Finder → List ℕ → Option (List Taken) → Refusal → Stepped → Now → Type 0
+abbrev pub IsRefused : Finder → List ℕ → Tale → Refusal → Stepped → Now → Type 0
 IsRefused passes a before why (Refused p e) Z = (e ≡ why) × IsAt passes a before NoYes p Z
 IsRefused passes a before why (Going p) Z = ⊥
 IsRefused passes a before why (Resting p tick Fs) Z = ⊥
@@ -41,13 +41,13 @@ pub record RestsIn (n tick : ℕ) (p : Progress) (at : ℕ) (Fs : List (List ℕ
   pub depth : Z.depth ≡ depths_of Fs p.bodies
   pub few : length Fs ≤ n
 
-abbrev pub Rests : Finder → List ℕ → Option (List Taken) → ℕ → ℕ → Stepped → Now → Type 0
+abbrev pub Rests : Finder → List ℕ → Tale → ℕ → ℕ → Stepped → Now → Type 0
 Rests passes a before n tick (Resting p at Fs) Z = RestsIn n tick p at Fs Z × IsAt passes a before (LastYes tick) p Z
 Rests passes a before n tick (Going p) Z = ⊥
 Rests passes a before n tick (Refused p e) Z = ⊥
 
 -- it was broken off: a first part of what happens was taken
-pub record IsCut (passes : Finder) (a : List ℕ) (before : Option (List Taken)) (trail : List Happening) (Z : Now) : Type 0 where
+pub record IsCut (passes : Finder) (a : List ℕ) (before : Tale) (trail : List Happening) (Z : Now) : Type 0 where
   pub first : List Happening
   pub later : List Happening
   pub parts : trail ≡ first ++ later
@@ -63,7 +63,7 @@ IsOutside from to None = ⊤
 IsOutside from to (Some u) = (u ≤ from) ⊎ (to ≤ u)
 
 -- what was answered for a step that lasts from a tick to a tick and may be stopped, inside at most n unfinished steps
-abbrev pub Shows : {T : Type 0} → Finder → List ℕ → Option (List Taken) → ℕ → ℕ → ℕ → (Option ℕ → Stepped) → Result T Halt → Now → Type 0
+abbrev pub Shows : {T : Type 0} → Finder → List ℕ → Tale → ℕ → ℕ → ℕ → (Option ℕ → Stepped) → Result T Halt → Now → Type 0
 Shows passes a before n from to step (Ok x) Z = (stop : Option ℕ) → IsOutside from to stop → GoesTo passes a before (step stop) Z
 Shows passes a before n from to step (Err (halts.MomRange tick bin id axis)) Z = IsRefused passes a before (MomRange tick bin id axis) (step None) Z
 Shows passes a before n from to step (Err (halts.StepRange tick id)) Z = IsRefused passes a before (StepRange tick id) (step None) Z
@@ -98,4 +98,4 @@ pub record Makes {T : Type 0} (passes : Finder) (n most from to : ℕ) (step : O
   pub cause : HasCause n answer A Z
   pub few : Z.kicks ≤ A.kicks + most
   pub counted : A.interactions ≤ A.kicks * 2 ^ 65 → Z.interactions ≤ Z.kicks * 2 ^ 65
-  pub shows : (a : List ℕ) (before : Option (List Taken)) (p : Progress) → IsAt passes a before NoYes p A → Shows passes a before n from to (λ stop. step stop p) answer Z
+  pub shows : (a : List ℕ) (before : Tale) (p : Progress) → IsAt passes a before NoYes p A → Shows passes a before n from to (λ stop. step stop p) answer Z

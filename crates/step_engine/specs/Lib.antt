@@ -6,3 +6,4 @@ pub mod Halts
 pub mod BaseSteps
 pub mod Stages
 pub mod Deeper
+pub mod Resumed

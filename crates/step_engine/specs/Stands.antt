@@ -15,7 +15,7 @@ use Rattle.model_laws.specs.Laws.{AreBodies, CorrectsLittle}
 use Rattle.model_laws.specs.Preserved.{IsPart}
 use Rattle.kick_drift.specs.Parts.{ids_at, AreAscending}
 use Rattle.step_engine.specs.declared.work.Work.{Work}
-use Rattle.step_engine.specs.Taken.{Taken, Adds}
+use Rattle.step_engine.specs.Taken.{Taken, Tale, Adds}
 use Rattle.step_engine.specs.Told.{Finder, AreForcesAmong, IsTold}
 
 -- the bodies; what forces are found by, the numbers that no call changes, and their state; the counts and what was taken of
@@ -27,12 +27,12 @@ pub record Now : Type 0 where
   pub state : List ℕ
   pub faults : ℕ
   pub yes : ℕ
-  pub took : Option (List Taken)
+  pub took : Tale
   pub depth : List ℕ
   pub kicks : ℕ
   pub interactions : ℕ
 
-abbrev pub now : List BodyData → Gravity → List ℕ → List ℕ → ℕ → ℕ → Option (List Taken) → Work → Now
+abbrev pub now : List BodyData → Gravity → List ℕ → List ℕ → ℕ → ℕ → Tale → Work → Now
 now B g fixed state faults yeses took w =
     record { bodies = B; gravity = g; fixed = fixed; state = state; faults = faults; yes = yeses; took = took; depth = w.depth.items; kicks = w.count.kicks; interactions = w.count.interactions }
 
@@ -89,7 +89,7 @@ IsRefusedBy out (MomRange id axis) = out ≡ Some (id, axis)
 
 -- the progress p of a step, as it was told from a state a and behind what was taken before, stands here; the entries that
 -- were taken are of some kind
-pub record IsAt (passes : Finder) (a : List ℕ) (before : Option (List Taken)) (Kind : List Taken → Type 0) (p : Progress) (N : Now) : Type 0 where
+pub record IsAt (passes : Finder) (a : List ℕ) (before : Tale) (Kind : List Taken → Type 0) (p : Progress) (N : Now) : Type 0 where
   pub entries : List Taken
   pub bodies : p.bodies ≡ N.bodies
   pub told : IsTold N.gravity (passes N.gravity N.fixed) a p.trail entries N.state

@@ -1,5 +1,5 @@
 -- What a taker took in a step.
-use Rattle.std.specs.Prelude.{◌≡◌, ◌⊎◌, ℕ, Bool, List, [], ◌∷◌, ◌++◌, Option, Some, None}
+use Rattle.std.specs.Prelude.{◌⊎◌, ℕ, Bool, IsTrue, List, [], ◌∷◌, ◌++◌, Option}
 use Rattle.nbody_model.specs.declared.kicks.Record.{Record}
 use Rattle.nbody_model.specs.Fields.{FieldData}
 
@@ -11,13 +11,15 @@ pub data Taken : Type 0 where
   TookRest : ℕ → Bool → Taken
   TookPart : List ℕ → Taken
 
--- the entries stand behind what was taken before, where it is told
-abbrev pub Adds : Option (List Taken) → Option (List Taken) → List Taken → Type 0
-Adds None None entries = Unit {0}
-Adds (Some old) (Some new) entries = new ≡ old ++ entries
-Adds None (Some new) entries = ⊥
-Adds (Some old) None entries = ⊥
+-- what is told of a taker: whether it may be that so many questions were left to it at first, where that is told, and that
+-- it took these entries since
+abbrev pub Tale : Type 0
+Tale = Option ℕ → List Taken → Bool
 
--- the entry stands behind what was taken before, or not
-abbrev pub AddsPart : Option (List Taken) → Option (List Taken) → Taken → Type 0
+-- the entries stand behind whatever was taken before
+abbrev pub Adds : Tale → Tale → List Taken → Type 0
+Adds old new entries = (left : Option ℕ) (earlier : List Taken) → IsTrue (old left earlier) → IsTrue (new left (earlier ++ entries))
+
+-- the entry stands behind whatever was taken before, or not
+abbrev pub AddsPart : Tale → Tale → Taken → Type 0
 AddsPart old new entry = Adds old new (entry ∷ []) ⊎ Adds old new []

@@ -27,6 +27,7 @@ pub(crate) fn ask<F: Forces, O: KickOut>(
     requires part { AreAscending set.now part.now }
     ensures makes { (w : Work) (n tick : ℕ) → Makes F.passes n 0 tick tick (λ stop p. Going (tell (Asked (only p.bodies (ids_at set.now part.now))) p)) result (now set.now (F.gravity forces.old) (F.fixed forces.old) (F.state forces.old) (O.faults out.old) (O.yes out.old) (O.took out.old) w) (now set.now (F.gravity forces.new) (F.fixed forces.new) (F.state forces.new) (O.faults out.new) (O.yes out.new) (O.took out.new) w) }
     ensures forces { IfOk result (AreForcesAmong (F.gravity forces.old) (only set.now (ids_at set.now part.now))) }
+    ensures same_out { O.fixed out.new ≡ O.fixed out.old }
 {
     match gather(set, part, room) {
         Ok(()) => {}

@@ -41,16 +41,16 @@ fn all_places(alloc: Global, set: &BodySet) -> Result<Vec<u32>, Memory>
     Ok(places)
 }
 
-// The momentum of all bodies together.
-fn total_of(set: &BodySet) -> [i128; 3]
+/// The momentum of all bodies together.
+pub(crate) fn total_of(set: &BodySet) -> [i128; 3]
     ensures { result ≡ components (total set.now) }
 {
     let total = set.total_momentum();
     [total[0], total[1], total[2]]
 }
 
-// How a base step ends that halts.
-fn end_of(halt: Halt, work: Work) -> StepEnd
+/// How a base step ends that halts.
+pub(crate) fn end_of(halt: Halt, work: Work) -> StepEnd
     ensures { result ≡ end_of halt work.depth.items work.count }
 {
     match halt {
@@ -90,6 +90,7 @@ fn first_forces<F: Forces, O: KickOut>(
     requires known { IfSome known (AreForcesAmong (F.gravity forces.old) (only set.now (ids_at set.now part.now))) }
     ensures makes { (w : Work) (n tick : ℕ) → Makes F.passes n 0 tick tick (λ stop p. Going (ask_if (not (is_known known)) (ids_at set.now part.now) p)) result (now set.now (F.gravity forces.old) (F.fixed forces.old) (F.state forces.old) (O.faults out.old) (O.yes out.old) (O.took out.old) w) (now set.now (F.gravity forces.new) (F.fixed forces.new) (F.state forces.new) (O.faults out.new) (O.yes out.new) (O.took out.new) w) }
     ensures forces { IfOk result (AreForcesAmong (F.gravity forces.old) (only set.now (ids_at set.now part.now))) }
+    ensures same_out { O.fixed out.new ≡ O.fixed out.old }
 {
     match known {
         Some(field) => Ok(field),
@@ -115,6 +116,7 @@ fn step_whole<F: Forces, O: KickOut>(
     requires none { work.old.count.kicks ≡ 0 }
     ensures forces { IfOk result (AreForcesAmong (F.gravity forces.old) set.new) }
     ensures makes { Makes F.passes course.now.setup.now.top_bin (2 ^ (course.now.setup.now.top_bin + 1) - 2) tick (tick + 2 ^ course.now.setup.now.top_bin) (λ stop p. evolve (rules (F.gravity forces.old) (option_copied course.now.expansion)) stop course.now.setup.now.top_bin (ids_of set.old) tick (ask_if (not (is_known known)) (ids_of set.old) p)) result (now set.old (F.gravity forces.old) (F.fixed forces.old) (F.state forces.old) (O.faults out.old) (O.yes out.old) (O.took out.old) work.old) (now set.new (F.gravity forces.new) (F.fixed forces.new) (F.state forces.new) (O.faults out.new) (O.yes out.new) (O.took out.new) work.new) }
+    ensures same_out { O.fixed out.new ≡ O.fixed out.old }
 {
     let all = match all_places(alloc, set) {
         Ok(all) => all,
@@ -165,6 +167,7 @@ pub fn base_step<F: Forces, O: KickOut>(
     ensures cause { StepCause result (O.faults out.old) (O.faults out.new) (O.yes out.old) (O.yes out.new) }
     ensures same_gravity { F.gravity forces.new ≡ F.gravity forces.old }
     ensures same_fixed { F.fixed forces.new ≡ F.fixed forces.old }
+    ensures same_out { O.fixed out.new ≡ O.fixed out.old }
 {
     let before = known.take();
     keep_limits(set.bodies());

@@ -40,6 +40,7 @@ pub(crate) fn close_all<F: Forces, O: KickOut>(
     requires room { work.old.count.kicks ≤ 2 ^ 40 }
     ensures forces { AreForcesAmong (F.gravity forces.now) (only set.new (ids_at set.new part.now)) quick.now }
     ensures makes { (n : ℕ) → Makes F.passes n 1 (tick + 2 ^ bin) (tick + 2 ^ bin) (λ stop p. close (record { gravity = F.gravity forces.now; expansion = option_copied course.now.expansion }) bin (ids_at set.old part.now) (ids_at set.old fast.now) tick p) result (now set.old (F.gravity forces.now) (F.fixed forces.now) (F.state forces.now) (O.faults out.old) (O.yes out.old) (O.took out.old) work.old) (now set.new (F.gravity forces.now) (F.fixed forces.now) (F.state forces.now) (O.faults out.new) (O.yes out.new) (O.took out.new) work.new) }
+    ensures same_out { O.fixed out.new ≡ O.fixed out.old }
 {
     let h = last_factor(course, bin, tick);
     let end = tick + power(bin);
@@ -72,6 +73,7 @@ pub(crate) fn close_some<F: Forces, O: KickOut>(
     requires room { work.old.count.kicks ≤ 2 ^ 40 }
     ensures forces { IfOk result (AreForcesAmong (F.gravity forces.old) (only set.new (ids_at set.new part.now))) }
     ensures makes { (n : ℕ) → Makes F.passes n 1 (tick + 2 ^ bin) (tick + 2 ^ bin) (λ stop p. close (record { gravity = F.gravity forces.old; expansion = option_copied course.now.expansion }) bin (ids_at set.old part.now) (ids_at set.old fast.now) tick p) result (now set.old (F.gravity forces.old) (F.fixed forces.old) (F.state forces.old) (O.faults out.old) (O.yes out.old) (O.took out.old) work.old) (now set.new (F.gravity forces.new) (F.fixed forces.new) (F.state forces.new) (O.faults out.new) (O.yes out.new) (O.took out.new) work.new) }
+    ensures same_out { O.fixed out.new ≡ O.fixed out.old }
 {
     let ticks = drift_ticks(course, bin, tick);
     match drift_slow(alloc, course.setup, set, part, fast, ticks) {

@@ -101,6 +101,7 @@ pub(crate) fn kick_part<F: Forces, O: KickOut>(
     requires room { work.old.count.kicks ≤ 2 ^ 40 }
     ensures places { SamePlaces set.new set.old }
     ensures makes { (n : ℕ) → Makes F.passes n 1 tick tick (λ stop p. kick (record { gravity = F.gravity _forces.now; expansion = option_copied course.now.expansion }) bin (ids_at set.old whole.now) (ids_at set.old fast.now) tick h p) result (now set.old (F.gravity _forces.now) (F.fixed _forces.now) (F.state _forces.now) (O.faults out.old) (O.yes out.old) (O.took out.old) work.old) (now set.new (F.gravity _forces.now) (F.fixed _forces.now) (F.state _forces.now) (O.faults out.new) (O.yes out.new) (O.took out.new) work.new) }
+    ensures same_out { O.fixed out.new ≡ O.fixed out.old }
 {
     keeps_setup(course.setup);
     match kick_unless_none(set, whole, f, fast, quick, h) {

@@ -7,17 +7,21 @@ mod closes;
 mod course;
 mod depth;
 mod depths;
+mod finish;
 mod halt;
 mod kick_out;
 mod kicks;
 mod parts;
+mod pause;
 mod recursion;
+mod rounds;
 mod step_end;
 mod tells;
 mod work;
 
 pub use base::base_step;
 pub use depths::Depths;
+pub use finish::finish_step;
 pub use kick_out::KickOut;
 pub use step_end::{StepCount, StepEnd};
 

@@ -78,6 +78,7 @@ fn ask_fast<F: Forces, O: KickOut>(
     requires fast { AreAscending set.now fast.now }
     ensures makes { (w : Work) (n tick : ℕ) → Makes F.passes n 0 tick tick (asks_fast (ids_at set.now fast.now)) result (now set.now (F.gravity forces.old) (F.fixed forces.old) (F.state forces.old) (O.faults out.old) (O.yes out.old) (O.took out.old) w) (now set.now (F.gravity forces.new) (F.fixed forces.new) (F.state forces.new) (O.faults out.new) (O.yes out.new) (O.took out.new) w) }
     ensures forces { IfOk result (AreForcesAmong (F.gravity forces.old) (only set.now (ids_at set.now fast.now))) }
+    ensures same_out { O.fixed out.new ≡ O.fixed out.old }
 {
     if is_empty(fast) {
         return Ok(no_forces(alloc));
@@ -107,6 +108,7 @@ fn two_finer<F: Forces, O: KickOut>(
     requires room { work.old.count.kicks + 2 ^ (bin + 1) ≤ 2 ^ 40 + 1 }
     ensures forces { IfOk result (AreForcesAmong (F.gravity forces.old) (only set.new (ids_at set.new fast.now))) }
     ensures makes { Makes F.passes (bin - 1) (2 ^ (bin + 1) - 4) tick (tick + 2 ^ bin) (two_finer (rules (F.gravity forces.old) (option_copied course.now.expansion)) bin (ids_at set.old fast.now) tick) result (now set.old (F.gravity forces.old) (F.fixed forces.old) (F.state forces.old) (O.faults out.old) (O.yes out.old) (O.took out.old) work.old) (now set.new (F.gravity forces.new) (F.fixed forces.new) (F.state forces.new) (O.faults out.new) (O.yes out.new) (O.took out.new) work.new) }
+    ensures same_out { O.fixed out.new ≡ O.fixed out.old }
 {
     let finer = bin - 1;
     let middle = tick + power(finer);
@@ -147,6 +149,7 @@ fn between<F: Forces, O: KickOut>(
     requires room { work.old.count.kicks + 2 ^ (bin + 1) ≤ 2 ^ 40 + 1 }
     ensures forces { IfOk result (AreForcesAmong (F.gravity forces.old) (only set.new (ids_at set.new fast.now))) }
     ensures makes { Makes F.passes bin (2 ^ (bin + 1) - 4) tick (tick + 2 ^ bin) (inner (rules (F.gravity forces.old) (option_copied course.now.expansion)) bin (ids_at set.old fast.now) tick) result (now set.old (F.gravity forces.old) (F.fixed forces.old) (F.state forces.old) (O.faults out.old) (O.yes out.old) (O.took out.old) work.old) (now set.new (F.gravity forces.new) (F.fixed forces.new) (F.state forces.new) (O.faults out.new) (O.yes out.new) (O.took out.new) work.new) }
+    ensures same_out { O.fixed out.new ≡ O.fixed out.old }
 {
     if is_empty(fast) {
         return Ok(quick);
@@ -184,6 +187,7 @@ fn step_all<F: Forces, O: KickOut>(
     requires room { work.old.count.kicks + 2 ^ (bin + 1) ≤ 2 ^ 40 }
     ensures forces { IfOk result (AreForcesAmong (F.gravity forces.old) (only set.new (ids_at set.new part.now))) }
     ensures makes { Makes F.passes bin (2 ^ (bin + 1) - 2) tick (tick + 2 ^ bin) (from_kick (rules (F.gravity forces.old) (option_copied course.now.expansion)) bin (ids_at set.old part.now) (ids_at set.old fast.now) tick) result (now set.old (F.gravity forces.old) (F.fixed forces.old) (F.state forces.old) (O.faults out.old) (O.yes out.old) (O.took out.old) work.old) (now set.new (F.gravity forces.new) (F.fixed forces.new) (F.state forces.new) (O.faults out.new) (O.yes out.new) (O.took out.new) work.new) }
+    ensures same_out { O.fixed out.new ≡ O.fixed out.old }
 {
     let h = first_factor(course, bin, tick);
     match kick_part(
@@ -231,6 +235,7 @@ fn step_some<F: Forces, O: KickOut>(
     requires room { work.old.count.kicks + 2 ^ (bin + 1) ≤ 2 ^ 40 }
     ensures forces { IfOk result (AreForcesAmong (F.gravity forces.old) (only set.new (ids_at set.new part.now))) }
     ensures makes { Makes F.passes bin (2 ^ (bin + 1) - 2) tick (tick + 2 ^ bin) (from_ask (rules (F.gravity forces.old) (option_copied course.now.expansion)) bin (ids_at set.old part.now) (ids_at set.old fast.now) tick) result (now set.old (F.gravity forces.old) (F.fixed forces.old) (F.state forces.old) (O.faults out.old) (O.yes out.old) (O.took out.old) work.old) (now set.new (F.gravity forces.new) (F.fixed forces.new) (F.state forces.new) (O.faults out.new) (O.yes out.new) (O.took out.new) work.new) }
+    ensures same_out { O.fixed out.new ≡ O.fixed out.old }
 {
     let quick = match ask_fast(alloc, set, fast, &mut work.bodies, forces, out) {
         Ok(quick) => quick,
@@ -276,6 +281,7 @@ pub(crate) fn evolve<F: Forces, O: KickOut>(
     requires high { course.now.setup.now.low_bin ≤ bin }
     ensures forces { IfOk result (AreForcesAmong (F.gravity forces.old) (only set.new (ids_at set.new part.now))) }
     ensures makes { Makes F.passes bin (2 ^ (bin + 1) - 2) tick (tick + 2 ^ bin) (λ stop p. evolve (rules (F.gravity forces.old) (option_copied course.now.expansion)) stop bin (ids_at set.old part.now) tick p) result (now set.old (F.gravity forces.old) (F.fixed forces.old) (F.state forces.old) (O.faults out.old) (O.yes out.old) (O.took out.old) work.old) (now set.new (F.gravity forces.new) (F.fixed forces.new) (F.state forces.new) (O.faults out.new) (O.yes out.new) (O.took out.new) work.new) }
+    ensures same_out { O.fixed out.new ≡ O.fixed out.old }
 {
     let found = match fast_places(
         alloc,

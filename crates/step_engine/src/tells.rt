@@ -24,7 +24,8 @@ pub(crate) fn tell_part<F: Forces, O: KickOut>(
 ) -> Result<(), Halt>
     requires bodies { AreBodies set.now }
     requires fast { AreAscending set.now fast.now }
-    ensures { (g : Gravity) (fixed state : List ℕ) (w : Work) (n tick : ℕ) → Makes F.passes n 0 tick tick (λ stop p. Going (tell (Binned (ids_at set.now fast.now)) p)) result (now set.now g fixed state (O.faults out.old) (O.yes out.old) (O.took out.old) w) (now set.now g fixed state (O.faults out.new) (O.yes out.new) (O.took out.new) w) }
+    ensures makes { (g : Gravity) (fixed state : List ℕ) (w : Work) (n tick : ℕ) → Makes F.passes n 0 tick tick (λ stop p. Going (tell (Binned (ids_at set.now fast.now)) p)) result (now set.now g fixed state (O.faults out.old) (O.yes out.old) (O.took out.old) w) (now set.now g fixed state (O.faults out.new) (O.yes out.new) (O.took out.new) w) }
+    ensures same_out { O.fixed out.new ≡ O.fixed out.old }
 {
     match gather_ids(set, fast, room) {
         Ok(()) => {}
@@ -39,7 +40,8 @@ pub(crate) fn tell_part<F: Forces, O: KickOut>(
 /// A resting point: the step goes on, or rests there.
 pub(crate) fn rest<F: Forces, O: KickOut>(out: &mut O, tick: u64) -> Result<(), Halt>
     requires { 1 ≤ tick }
-    ensures { (B : List BodyData) (g : Gravity) (fixed state : List ℕ) (w : Work) (n : ℕ) → AreBodies B → w.depth.items ≡ depths_of [] B → Makes F.passes n 0 (tick - 1) (tick + 1) (λ stop p. rest stop tick p) result (now B g fixed state (O.faults out.old) (O.yes out.old) (O.took out.old) w) (now B g fixed state (O.faults out.new) (O.yes out.new) (O.took out.new) w) }
+    ensures makes { (B : List BodyData) (g : Gravity) (fixed state : List ℕ) (w : Work) (n : ℕ) → AreBodies B → w.depth.items ≡ depths_of [] B → Makes F.passes n 0 (tick - 1) (tick + 1) (λ stop p. rest stop tick p) result (now B g fixed state (O.faults out.old) (O.yes out.old) (O.took out.old) w) (now B g fixed state (O.faults out.new) (O.yes out.new) (O.took out.new) w) }
+    ensures same_out { O.fixed out.new ≡ O.fixed out.old }
 {
     if out.rested(tick) {
         return Err(Halt::Rest { tick });

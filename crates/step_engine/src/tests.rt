@@ -1,4 +1,4 @@
-ghost use Rattle.std.specs.Prelude.{◌≡◌, ◌≤◌, ◌+◌, ◌^◌, IfOk, IfSome, option_copied};
+ghost use Rattle.std.specs.Prelude.{◌≡◌, ◌≤◌, ◌+◌, ◌^◌, ◌∷◌, [], IfOk, IfSome, length, option_copied};
 ghost use Rattle.fixed_point.specs.Fixed.{IsMomentum};
 ghost use Rattle.nbody_model.specs.Tables.{Reaches};
 ghost use Rattle.particle_set.specs.Rows.{HasKind};
@@ -23,13 +23,15 @@ struct Tale {
 }
 
 impl KickOut for Tale {
-    ghost use Rattle.std.specs.Prelude.{None};
+    ghost use Rattle.std.specs.Prelude.{true, []};
 
     ghost faults = { λ _. 0 };
 
     ghost yes = { λ tale. tale.yes };
 
-    ghost took = { λ _. None };
+    ghost took = { λ _ _ _. true };
+
+    ghost fixed = { λ _. [] };
 
     fn forced(&mut self, _field: &Field) -> Result<(), IoErr> {
         self.found = self.found.saturating_add(1);
@@ -72,7 +74,8 @@ fn setup(low_bin: u8, top_bin: u8, eta: u32, velocity_shift: u8) -> Setup
     requires some { 1 ≤ eta }
     requires eta { eta ≤ 65536 }
     requires shift { velocity_shift ≤ 40 }
-    ensures { result.top_bin ≡ top_bin }
+    ensures low { result.low_bin ≡ low_bin }
+    ensures top { result.top_bin ≡ top_bin }
 {
     Setup {
         time_max: 4,
@@ -126,6 +129,45 @@ fn step(
         &mut forces,
         tale,
     )
+}
+
+// Two bodies of one depth.
+fn both(alloc: Global, depth: u8) -> Result<Depths, Fail>
+    ensures { IfOk result (λ d. d ≡ depth ∷ depth ∷ []) }
+{
+    Ok(Depths::from_list(vec![in alloc; depth, depth]?))
+}
+
+// What is left of a base step in the bins 1 and 2 that rests at tick 2, where both bodies have one depth.
+fn finish(
+    alloc: Global,
+    set: &mut BodySet,
+    setup: &Setup,
+    depth: u8,
+    tale: &mut Tale,
+) -> Result<StepCount, Fail>
+    requires two { length set.old ≡ 2 }
+    requires low { setup.now.low_bin ≡ 1 }
+    requires top { setup.now.top_bin ≡ 2 }
+    requires shallow { depth ≤ 1 }
+{
+    let depths = both(alloc, depth)?;
+    let mut forces = ListField::new(alloc, *setup, None);
+    let mut known = None;
+    match finish_step(
+        alloc,
+        set,
+        setup,
+        None,
+        2,
+        &depths,
+        &mut known,
+        &mut forces,
+        tale,
+    ) {
+        Ok(count) => Ok(count),
+        Err(_) => Err("no whole step".into()),
+    }
 }
 
 // A kick of two bodies, all of which are fast or none.
@@ -202,6 +244,43 @@ fn a_rest_inside(rt: HostRuntime) -> Result<(), Fail> {
         _ => return Err("no rest".into()),
     }
     assert!(rt; stand(&set, 122, 877) && move_apart(&set, 2_638_708));
+    Ok(())
+}
+
+#[test]
+fn a_rest_and_what_is_left(rt: HostRuntime) -> Result<(), Fail> {
+    let alloc = rt.alloc();
+    let setup = setup(1, 2, 65536, 4);
+    let mut set = pair(alloc, 0)?;
+    let mut tale = new_tale(alloc, 2);
+    let end = step(alloc, &mut set, &setup, None, &mut tale);
+    assert!(rt; matches!(end, Err(StepEnd::Rest { .. })));
+    if set.len() != 2 {
+        return Err("other bodies".into());
+    }
+    let mut tale = new_tale(alloc, 7);
+    let count = finish(alloc, &mut set, &setup, 1, &mut tale)?;
+    assert!(rt; count.kicks == 3 && count.interactions == 4);
+    let kicks = [kick(2, 1, false), kick(4, 1, false), kick(4, 2, true)];
+    assert!(rt; tale.kicks.as_slice() == kicks.as_slice());
+    assert_eq!(rt; tale.found, 2);
+    assert!(rt; stand(&set, 644, 354));
+    Ok(())
+}
+
+#[test]
+fn no_body_is_fast(rt: HostRuntime) -> Result<(), Fail> {
+    let alloc = rt.alloc();
+    let setup = setup(1, 2, 65536, 20);
+    let mut set = pair(alloc, 0)?;
+    if set.len() != 2 {
+        return Err("other bodies".into());
+    }
+    let mut tale = new_tale(alloc, 7);
+    let count = finish(alloc, &mut set, &setup, 0, &mut tale)?;
+    assert!(rt; count.kicks == 3 && count.interactions == 1);
+    assert_eq!(rt; tale.found, 2);
+    assert!(rt; stand(&set, 0, 1000) && move_apart(&set, 1_999_778));
     Ok(())
 }
 

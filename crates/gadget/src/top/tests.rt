@@ -3,6 +3,10 @@ use fixed_point::Memory;
 use std::test::Fail;
 use store_io::{LastSchedule, MemSink, MemStore, NeverStop};
 
+mod forces;
+mod runs;
+mod stops;
+
 // The first lines of a parameter file of one base step.
 const PARAMETERS: &[u8] = b"InitCondFile ics.dat
 SnapshotFileBase snapshot
@@ -15,16 +19,23 @@ GravityConstantInternal 1048576
 // Its last lines, with which a base step of two bodies that are far apart is made.
 const STEP: &str = "VelocityShift 20\nErrTolIntAccuracy 65536\nTimeMax 2";
 
-// A body of mass 1024 and kind 1 with y, z and their momenta 0.
+// A body of kind 1.
 #[derive(Clone, Copy)]
-struct OnAxis {
+struct Placed {
     id: u64,
-    x: u32,
-    px: i64,
+    mass: u32,
+    position: [u32; 3],
+    momentum: [i64; 3],
 }
 
-fn at(id: u64, x: u32, px: i64) -> OnAxis {
-    OnAxis { id, x, px }
+// A body of mass 1024 on the x axis.
+fn at(id: u64, x: u32, px: i64) -> Placed {
+    Placed {
+        id,
+        mass: 1024,
+        position: [x, 0, 0],
+        momentum: [px, 0, 0],
+    }
 }
 
 fn text(alloc: Global, bytes: &[u8]) -> Result<Text, Memory> {
@@ -49,19 +60,33 @@ fn push_block(out: &mut Vec<u8>, name: &[u8], contents: &[u8]) -> Result<(), Mem
     Ok(())
 }
 
+fn push_position(out: &mut Vec<u8>, position: [u32; 3]) -> Result<(), Memory> {
+    let [x, y, z] = position;
+    out.extend_from_slice(&x.to_le_bytes())?;
+    out.extend_from_slice(&y.to_le_bytes())?;
+    out.extend_from_slice(&z.to_le_bytes())?;
+    Ok(())
+}
+
+fn push_momentum(out: &mut Vec<u8>, momentum: [i64; 3]) -> Result<(), Memory> {
+    let [x, y, z] = momentum;
+    out.extend_from_slice(&x.to_le_bytes())?;
+    out.extend_from_slice(&y.to_le_bytes())?;
+    out.extend_from_slice(&z.to_le_bytes())?;
+    Ok(())
+}
+
 // The columns of some bodies: positions, momenta, ids and masses.
-fn push_columns(alloc: Global, out: &mut Vec<u8>, bodies: &[OnAxis]) -> Result<(), Memory> {
+fn push_columns(alloc: Global, out: &mut Vec<u8>, bodies: &[Placed]) -> Result<(), Memory> {
     let mut pos = Vec::new(alloc);
     let mut mom = Vec::new(alloc);
     let mut id = Vec::new(alloc);
     let mut mass = Vec::new(alloc);
     for body in bodies {
-        pos.extend_from_slice(&body.x.to_le_bytes())?;
-        pos.extend_from_slice(&[0; 8])?;
-        mom.extend_from_slice(&body.px.to_le_bytes())?;
-        mom.extend_from_slice(&[0; 16])?;
+        push_position(&mut pos, body.position)?;
+        push_momentum(&mut mom, body.momentum)?;
         id.extend_from_slice(&body.id.to_le_bytes())?;
-        mass.extend_from_slice(&1024u32.to_le_bytes())?;
+        mass.extend_from_slice(&body.mass.to_le_bytes())?;
     }
     push_block(out, b"POS ", &pos)?;
     push_block(out, b"MOM ", &mom)?;
@@ -70,7 +95,7 @@ fn push_columns(alloc: Global, out: &mut Vec<u8>, bodies: &[OnAxis]) -> Result<(
 }
 
 // The snapshot of some bodies at a tick, written out by hand.
-fn snapshot(alloc: Global, bodies: &[OnAxis], tick: u64) -> Result<Vec<u8>, Memory> {
+fn snapshot(alloc: Global, bodies: &[Placed], tick: u64) -> Result<Vec<u8>, Memory> {
     let count = bodies.len() as u64 % 256;
     let mut head = Vec::from_slice(alloc, b"I4SNAP01")?;
     head.extend_from_slice(&[0; 4])?;
@@ -85,7 +110,7 @@ fn snapshot(alloc: Global, bodies: &[OnAxis], tick: u64) -> Result<Vec<u8>, Memo
 }
 
 // A store with a parameter file, whose last lines are given, and the snapshot of some bodies.
-fn store_of(alloc: Global, last_lines: &str, bodies: &[OnAxis]) -> Result<MemStore, Memory> {
+fn store_of(alloc: Global, last_lines: &str, bodies: &[Placed]) -> Result<MemStore, Memory> {
     let mut store = MemStore::new(alloc);
     let params = joined(alloc, PARAMETERS, last_lines.as_bytes())?;
     store.put(&text(alloc, b"param.txt")?, &params)?;
@@ -94,99 +119,83 @@ fn store_of(alloc: Global, last_lines: &str, bodies: &[OnAxis]) -> Result<MemSto
     Ok(store)
 }
 
-// Runs the words, and gives the status's code.
-fn run_words(
+/// What the words print, and their status.
+#[derive(Drop)]
+struct Said {
+    code: u8,
+    line: Vec<u8>,
+}
+
+// Says the words over a store.
+fn say<Q: Stopper>(
     alloc: Global,
     words: &[&str],
     store: &mut MemStore,
-    sink: &mut MemSink,
-) -> Result<u8, Memory> {
+    stop: &mut Q,
+) -> Result<Said, Memory> {
     let mut texts = Vec::new(alloc);
     for word in words {
         texts.push(text(alloc, word.as_bytes())?)?;
     }
-    let status = gadget(
-        alloc,
-        &texts,
-        store,
-        &mut LastSchedule,
-        &mut NeverStop,
-        sink,
-    );
-    Ok(status.code())
+    let mut sink = MemSink::new(alloc);
+    let status = gadget(alloc, &texts, store, &mut LastSchedule, stop, &mut sink);
+    let line = Vec::from_slice(alloc, sink.bytes())?;
+    Ok(Said {
+        code: status.code(),
+        line,
+    })
 }
 
-const PAIR: [OnAxis; 2] = [
-    OnAxis { id: 1, x: 0, px: 0 },
-    OnAxis {
+// Whether the words print this, with this status.
+fn says(
+    alloc: Global,
+    words: &[&str],
+    store: &mut MemStore,
+    code: u8,
+    line: &str,
+) -> Result<bool, Memory> {
+    let said = say(alloc, words, store, &mut NeverStop)?;
+    Ok(said.code == code && said.line.as_slice() == line.as_bytes())
+}
+
+// Whether a file of this name stands, with these bytes.
+fn holds(alloc: Global, store: &MemStore, name: &str, want: &[u8]) -> Result<bool, Memory> {
+    let name = text(alloc, name.as_bytes())?;
+    Ok(store.get(&name).is_some_and(|bytes| bytes == want))
+}
+
+fn stands(alloc: Global, store: &MemStore, name: &str) -> Result<bool, Memory> {
+    let name = text(alloc, name.as_bytes())?;
+    Ok(store.get(&name).is_some())
+}
+
+const RUN: [&str; 3] = ["run", "param.txt", "1"];
+
+const PAIR: [Placed; 2] = [
+    Placed {
+        id: 1,
+        mass: 1024,
+        position: [0; 3],
+        momentum: [0; 3],
+    },
+    Placed {
         id: 2,
-        x: 1000,
-        px: 0,
+        mass: 1024,
+        position: [1000, 0, 0],
+        momentum: [0; 3],
     },
 ];
-
-#[test]
-fn two_bodies_make_one_base_step(rt: HostRuntime) -> Result<(), Fail> {
-    let alloc = rt.alloc();
-    let mut store = store_of(alloc, STEP, &PAIR)?;
-    let mut sink = MemSink::new(alloc);
-    assert_eq!(rt;
-        run_words(alloc, &["run", "param.txt", "1"], &mut store, &mut sink)?,
-        0
-    );
-    assert_eq!(rt;
-        sink.bytes(),
-        b"done tick 2 steps 1 snapshots 1 kicks 2 interactions 2 momentum 0 0 0\n".as_slice()
-    );
-    let after = [at(1, 0, 2001626), at(2, 999, -2001626)];
-    let want = snapshot(alloc, &after, 2)?;
-    assert_eq!(rt; want.len(), 472);
-    let name = text(alloc, b"snapshot_000")?;
-    assert!(rt;
-        store
-            .get(&name)
-            .is_some_and(|bytes| bytes == want.as_slice())
-    );
-    let kicks = text(alloc, b"kicks.txt")?;
-    assert!(rt;
-        store.get(&kicks).is_some_and(|bytes| bytes
-            == b"0 1 2 0 1 0 0 0 0\n2 1 2 0 1 0 0 0 0\n".as_slice())
-    );
-    Ok(())
-}
 
 // What a run prints, and its status.
 fn prints(
     alloc: Global,
     last_lines: &str,
-    bodies: &[OnAxis],
+    bodies: &[Placed],
     code: u8,
     want: &str,
 ) -> Result<bool, Memory> {
     let mut store = store_of(alloc, last_lines, bodies)?;
-    let mut sink = MemSink::new(alloc);
-    let got = run_words(alloc, &["run", "param.txt", "1"], &mut store, &mut sink)?;
-    Ok(got == code && sink.bytes() == want.as_bytes())
-}
-
-#[test]
-fn runs_end_as_they_should(rt: HostRuntime) -> Result<(), Fail> {
-    let alloc = rt.alloc();
-    let none = "done tick 2 steps 1 snapshots 1 kicks 2 interactions 0 momentum 0 0 0\n";
-    assert!(rt; prints(alloc, STEP, &[], 0, none)?);
-    let edge = [at(1, 4294966796, 0), at(2, 500, 0)];
-    let moved = "done tick 2 steps 1 snapshots 1 kicks 2 interactions 2 momentum 0 0 0\n";
-    assert!(rt; prints(alloc, STEP, &edge, 0, moved)?);
-    let fast = [at(1, 0, 4611686018427387904), at(2, 1000, 0)];
-    let range = "momentum range tick 0 bin 1 id 1 axis 0\n";
-    assert!(rt; prints(alloc, STEP, &fast, 20, range)?);
-    let short = "VelocityShift 4\nErrTolIntAccuracy 31246\nTimeMax 2";
-    assert!(rt; prints(alloc, short, &PAIR, 21, "step range tick 0 id 1\n")?);
-    let same = [at(1, 7, 0), at(2, 7, 0)];
-    assert!(rt; prints(alloc, STEP, &same, 0, none)?);
-    let leaf = [at(1, 0, 0), at(2, 0, 0), at(3, 0, 0), at(4, 1000, 0)];
-    assert!(rt; prints(alloc, STEP, &leaf, 0, moved)?);
-    Ok(())
+    says(alloc, &RUN, &mut store, code, want)
 }
 
 // A table of two steps to half the box, of zeros but for one number of one entry.
@@ -212,9 +221,7 @@ fn prints_with_table(
 ) -> Result<bool, Memory> {
     let mut store = store_of(alloc, last_lines, &PAIR)?;
     store.put(&text(alloc, b"table.dat")?, bytes)?;
-    let mut sink = MemSink::new(alloc);
-    let got = run_words(alloc, &["run", "param.txt", "1"], &mut store, &mut sink)?;
-    Ok(got == code && sink.bytes() == want.as_bytes())
+    says(alloc, &RUN, &mut store, code, want)
 }
 
 #[test]
@@ -234,145 +241,71 @@ fn tables_are_read(rt: HostRuntime) -> Result<(), Fail> {
     Ok(())
 }
 
+// A table of factors: entries so many ticks (as a power of two) apart, each with these two sums.
+fn factors(alloc: Global, spacing: u32, entries: &[(u64, u64)]) -> Result<Vec<u8>, Memory> {
+    let count = (entries.len() % 65_536) as u32;
+    let mut bytes = Vec::from_slice(alloc, b"I4EXPAN1")?;
+    bytes.extend_from_slice(&spacing.to_le_bytes())?;
+    bytes.extend_from_slice(&count.to_le_bytes())?;
+    for (kick, drift) in entries {
+        bytes.extend_from_slice(&kick.to_le_bytes())?;
+        bytes.extend_from_slice(&drift.to_le_bytes())?;
+    }
+    Ok(bytes)
+}
+
 #[test]
-fn no_bodies_leave_an_empty_snapshot(rt: HostRuntime) -> Result<(), Fail> {
+fn faulty_tables_of_factors_are_answered(rt: HostRuntime) -> Result<(), Fail> {
     let alloc = rt.alloc();
-    let mut store = store_of(alloc, STEP, &[])?;
-    let mut sink = MemSink::new(alloc);
-    assert_eq!(rt;
-        run_words(alloc, &["run", "param.txt", "1"], &mut store, &mut sink)?,
-        0
-    );
-    assert!(rt;
-        store
-            .get(&text(alloc, b"snapshot_000")?)
-            .is_some_and(|bytes| bytes.len() == 376)
-    );
+    let named =
+        "VelocityShift 20\nErrTolIntAccuracy 65536\nTimeMax 2\nExpansionTableFile table.dat\n";
+    let longer =
+        "VelocityShift 20\nErrTolIntAccuracy 65536\nTimeMax 3\nExpansionTableFile table.dat\n";
+    let right = factors(alloc, 1, &[(0, 0), (1, 2)])?;
+    let cut = right.get(..47).ok_or("short")?;
+    assert!(rt; prints_with_table(alloc, named, cut, 16, "expansion length 48 47\n")?);
+    let late = factors(alloc, 1, &[(1, 0), (1, 2)])?;
+    assert!(rt; prints_with_table(alloc, named, &late, 16, "expansion entry 0\n")?);
+    assert!(rt; prints_with_table(alloc, longer, &right, 16, "expansion short 4 2\n")?);
     Ok(())
 }
 
 #[test]
 fn parameters_are_answered(rt: HostRuntime) -> Result<(), Fail> {
     let alloc = rt.alloc();
-    let traced = "VelocityShift 20\nErrTolIntAccuracy 65536\nTimeMax 2\nRankTrace 1";
-    assert!(rt; prints(alloc, traced, &PAIR, 9, "not built\n")?);
-    let restarts = "VelocityShift 20\nErrTolIntAccuracy 65536\nTimeMax 2\nRestartEvery 1";
-    assert!(rt; prints(alloc, restarts, &PAIR, 9, "not built\n")?);
-    let unknown = "VelocityShift 20\nGravity 5\nTimeMax 2";
-    assert!(rt; prints(alloc, unknown, &PAIR, 10, "parameter line 8 unknown\n")?);
-    let missing = "VelocityShift 20\nErrTolIntAccuracy 65536";
-    assert!(rt;
-        prints(
-            alloc,
-            missing,
-            &PAIR,
-            10,
-            "parameter line 0 missing TimeMax\n"
-        )?
-    );
-    Ok(())
-}
-
-// The parameter file of four base steps with a list, but for what isn't built.
-const FOUR_STEPS: &[u8] = b"% a collisionless run
-InitCondFile            ics.dat
-SnapshotFileBase        snapshot
-OutputListFilename      outputs.txt   % in ticks
-
-RestartFileBase         restart
-KickFile                kicks.txt
-RankTraceFile           ranktrace.txt
-TimeMax                 4000
-LowBin                  10
-TopBin                  10
-ErrTolTheta             0
-ErrTolIntAccuracy       1638
-GravityConstantInternal 1048576
-VelocityShift           20
-SofteningType1          4096
-SofteningType2          8192
-SofteningType3          8192
-SofteningType4          8192
-SofteningType5          8192
-RestartEvery            0
-RankTrace               0
-DeliverySeed            42
-";
-
-// Runs four base steps with this list, and gives the status's code.
-fn run_with_list(
-    alloc: Global,
-    list: &[u8],
-    store: &mut MemStore,
-    sink: &mut MemSink,
-) -> Result<u8, Memory> {
-    store.put(&text(alloc, b"param.txt")?, FOUR_STEPS)?;
-    store.put(&text(alloc, b"outputs.txt")?, list)?;
-    let ics = snapshot(alloc, &PAIR, 0)?;
-    store.put(&text(alloc, b"ics.dat")?, &ics)?;
-    run_words(alloc, &["run", "param.txt", "1"], store, sink)
-}
-
-// The tick that the head of a snapshot tells, none where there is no such file.
-fn tick_of(store: &MemStore, name: &Text) -> Option<u64> {
-    let bytes = store.get(name)?;
-    let tick = bytes.get(52..60)?.first_chunk::<8>()?;
-    Some(u64::from_le_bytes(*tick))
-}
-
-#[test]
-fn four_base_steps_write_the_listed_snapshots(rt: HostRuntime) -> Result<(), Fail> {
-    let alloc = rt.alloc();
-    let mut store = MemStore::new(alloc);
-    let mut sink = MemSink::new(alloc);
-    let list = b"1600\n0\n% later ones\n1000 1\n1500\n9000\n";
-    assert_eq!(rt; run_with_list(alloc, list, &mut store, &mut sink)?, 0);
-    assert_eq!(rt;
-        sink.bytes(),
-        b"done tick 4096 steps 4 snapshots 4 kicks 8 interactions 8 momentum 0 0 0\n".as_slice()
-    );
-    let ticks = [
-        ("snapshot_000", Some(0)),
-        ("snapshot_001", Some(1024)),
-        ("snapshot_002", Some(2048)),
-        ("snapshot_003", Some(4096)),
-        ("snapshot_004", None),
-    ];
-    for (name, tick) in ticks {
-        assert_eq!(rt;
-            tick_of(&store, &text(alloc, name.as_bytes())?),
-            tick,
-            "of {name}"
-        );
-    }
-    Ok(())
-}
-
-#[test]
-fn faulty_lists_are_answered(rt: HostRuntime) -> Result<(), Fail> {
-    let alloc = rt.alloc();
     let cases = [
-        ("5\n% x\n7 8\nabc\n", "outputs line 4 not a number\n"),
-        ("18446744073709551616", "outputs line 1 not a number\n"),
+        (
+            "VelocityShift 20\nErrTolIntAccuracy 65536\nTimeMax 2\nRankTrace 1",
+            9,
+            "not built\n",
+        ),
+        (
+            "VelocityShift 20\nGravity 5\nTimeMax 2",
+            10,
+            "parameter line 8 unknown\n",
+        ),
+        (
+            "VelocityShift 20\nErrTolIntAccuracy 65536",
+            10,
+            "parameter line 0 missing TimeMax\n",
+        ),
+        ("TimeMax 2\nTimeMax 4", 10, "parameter line 8 repeated\n"),
+        ("TimeMax 1.5", 10, "parameter line 7 not a number\n"),
+        (
+            "DeliverySeed 18446744073709551616",
+            10,
+            "parameter line 7 out of range\n",
+        ),
     ];
-    for (list, want) in cases {
-        let mut store = MemStore::new(alloc);
-        let mut sink = MemSink::new(alloc);
-        assert_eq!(rt;
-            run_with_list(alloc, list.as_bytes(), &mut store, &mut sink)?,
-            11
+    for (last_lines, code, want) in cases {
+        let mut store = store_of(alloc, last_lines, &PAIR)?;
+        assert!(rt; says(alloc, &RUN, &mut store, code, want)?, "at {want}");
+        assert!(rt;
+            says(alloc, &["check", "param.txt"], &mut store, code, want)?,
+            "at {want}"
         );
-        assert_eq!(rt; sink.bytes(), want.as_bytes());
-        assert!(rt; store.get(&text(alloc, b"kicks.txt")?).is_none());
+        assert!(rt; !stands(alloc, &store, "kicks.txt")?);
     }
-    let mut many = Vec::new(alloc);
-    for _ in 0..65537 {
-        many.extend_from_slice(b"1\n")?;
-    }
-    let mut store = MemStore::new(alloc);
-    let mut sink = MemSink::new(alloc);
-    assert_eq!(rt; run_with_list(alloc, &many, &mut store, &mut sink)?, 11);
-    assert_eq!(rt; sink.bytes(), b"outputs too many 65537\n".as_slice());
     Ok(())
 }
 
@@ -383,12 +316,7 @@ fn clashing_names_are_refused(rt: HostRuntime) -> Result<(), Fail> {
     let params =
         b"InitCondFile ics.dat\nSnapshotFileBase snapshot\nKickFile snapshot_7\nTimeMax 2\nLowBin 1\nTopBin 1\nErrTolTheta 0\nErrTolIntAccuracy 1\nGravityConstantInternal 0\nVelocityShift 0\n";
     store.put(&text(alloc, b"param.txt")?, params)?;
-    let mut sink = MemSink::new(alloc);
-    assert_eq!(rt;
-        run_words(alloc, &["run", "param.txt", "1"], &mut store, &mut sink)?,
-        10
-    );
-    assert_eq!(rt; sink.bytes(), b"parameter line 3 clash\n".as_slice());
+    assert!(rt; says(alloc, &RUN, &mut store, 10, "parameter line 3 clash\n")?);
     Ok(())
 }
 
@@ -397,17 +325,25 @@ fn words_and_files_are_answered(rt: HostRuntime) -> Result<(), Fail> {
     let alloc = rt.alloc();
     let usage =
         "usage: gadget run PARAM RANKS | resume PARAM RESTART RANKS | check PARAM | show SNAP | make COUNT SEED NAME\n";
-    let cases: [(&[&str], u8, &str); 10] = [
+    let cases: [(&[&str], u8, &str); 14] = [
         (&[], 2, usage),
         (&["run", "param.txt", "0"], 2, usage),
         (&["run", "param.txt", "257"], 2, usage),
         (&["make", "1", "x", "c"], 2, usage),
         (&["run", "param.txt", "2"], 9, "not built\n"),
         (&["show", "nothing"], 7, "absent nothing\n"),
+        (&["resume", "param.txt", "restart_000", "0"], 2, usage),
+        (&["resume", "param.txt", "", "1"], 2, usage),
+        (&["resume", "param.txt", "restart_000"], 2, usage),
         (
-            &["resume", "param.txt", "restart_000", "1"],
+            &["resume", "param.txt", "restart_000", "2"],
             9,
             "not built\n",
+        ),
+        (
+            &["resume", "nothing", "restart_000", "1"],
+            7,
+            "absent nothing\n",
         ),
         (&["make", "1", "2", "c"], 9, "not built\n"),
         (&["run", "nothing", "1"], 7, "absent nothing\n"),
@@ -417,49 +353,41 @@ fn words_and_files_are_answered(rt: HostRuntime) -> Result<(), Fail> {
         let mut store = MemStore::new(alloc);
         let long = vec![in alloc; b'\n'; 65537]?;
         store.put(&text(alloc, b"long")?, &long)?;
-        let mut sink = MemSink::new(alloc);
-        assert_eq!(rt;
-            run_words(alloc, words, &mut store, &mut sink)?,
-            code,
-            "at {want}"
-        );
-        assert_eq!(rt; sink.bytes(), want.as_bytes(), "at {want}");
+        assert!(rt; says(alloc, words, &mut store, code, want)?, "at {want}");
     }
     Ok(())
 }
 
 #[test]
-fn faults_are_named(rt: HostRuntime) -> Result<(), Fail> {
+fn snapshots_are_answered(rt: HostRuntime) -> Result<(), Fail> {
     let alloc = rt.alloc();
-    // Calls 0 and 1 read the parameter file, 2 and 3 the snapshot; 4 makes the kick file, 5 writes its
-    // lines; 6 makes the snapshot, 7 writes it, 8 and 9 finish the two.
-    let cases = [
-        (0, 4, "read fault param.txt\n"),
-        (2, 4, "read fault ics.dat\n"),
-        (4, 5, "write fault kicks.txt\n"),
-        (7, 5, "write fault snapshot_000\n"),
-        (9, 5, "write fault kicks.txt\n"),
-    ];
-    for (call, code, want) in cases {
-        let mut store = store_of(alloc, STEP, &PAIR)?;
-        store.fail(call, 100)?;
-        let mut sink = MemSink::new(alloc);
-        assert_eq!(rt;
-            run_words(alloc, &["run", "param.txt", "1"], &mut store, &mut sink)?,
-            code
-        );
-        assert_eq!(rt; sink.bytes(), want.as_bytes());
-    }
+    let whole = snapshot(alloc, &PAIR, 2)?;
+    let lines =
+        "tick 2 number 0 bodies 2 mass 2048 momentum 0 0 0\ntype 1 bodies 2\ntype 2 bodies 0\ntype 3 bodies 0\ntype 4 bodies 0\ntype 5 bodies 0\n";
     let mut store = store_of(alloc, STEP, &PAIR)?;
-    let mut broken = MemSink::failing_at(alloc, 0);
-    assert_eq!(rt;
-        run_words(alloc, &["run", "param.txt", "1"], &mut store, &mut broken)?,
-        6
-    );
+    store.put(&text(alloc, b"snap")?, &whole)?;
+    assert!(rt; says(alloc, &["show", "snap"], &mut store, 0, lines)?);
     assert!(rt;
-        store
-            .get(&text(alloc, b"snapshot_000")?)
-            .is_some_and(|bytes| bytes.len() == 472)
+        says(
+            alloc,
+            &["check", "param.txt"],
+            &mut store,
+            0,
+            "ok bodies 2 mass 2048 momentum 0 0 0\n"
+        )?
     );
+    let cases: [(usize, &[u8], &str); 3] = [
+        (470, b"", "snapshot truncated at 456\n"),
+        (468, &[9, 0, 0, 0], "snapshot frames differ at 468 8 9\n"),
+        (464, &[0, 0, 0, 0, 8, 0, 0, 0], "snapshot zero mass id 2\n"),
+    ];
+    for (kept, tail, want) in cases {
+        let bytes = joined(alloc, whole.get(..kept).ok_or("short")?, tail)?;
+        store.put(&text(alloc, b"snap")?, &bytes)?;
+        assert!(rt;
+            says(alloc, &["show", "snap"], &mut store, 13, want)?,
+            "at {want}"
+        );
+    }
     Ok(())
 }

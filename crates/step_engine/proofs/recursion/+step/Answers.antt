@@ -73,7 +73,7 @@ two_finer-returns-in-Err-rest-clause-makes g t' c =
     let ready : IsReady c.args.course.now.setup.now c.args.course.now.total b = ready_made g.F.Forces.passes (bin - 1) (most_of (bin - 1)) t (t + 2 ^ (bin - 1)) (λ stop p. evolve (rules gr e) stop (bin - 1) (ids_at c.args.set.now c.args.fast.now) t p) c.in-Ok.half c.args.course.now.setup.now c.args.course.now.total a b one c.requires.ready in
     let middle : t + c.power.result ≡ t + 2 ^ (bin - 1) = ap (λ x. t + x) c.power.ensures in
     let d = now c.evolve.new.set (g.F.Forces.gravity c.evolve.new.forces) (g.F.Forces.fixed c.evolve.new.forces) (g.F.Forces.state c.evolve.new.forces) (g.O.KickOut.faults c.rest.new.out) (g.O.KickOut.yes c.rest.new.out) (g.O.KickOut.took c.rest.new.out) c.evolve.new.work in
-    two_rest g.F.Forces.passes {T = Field} {U = Unit {0}} {V = Field} e bin (ids_at c.args.set.now c.args.fast.now) t (t + c.power.result) c.in-Ok.half c.in-Err-rest.e gr a b d c.requires.timely.some middle one (c.in-Err-rest.ensures c.evolve.new.set (g.F.Forces.gravity c.evolve.new.forces) (g.F.Forces.fixed c.evolve.new.forces) (g.F.Forces.state c.evolve.new.forces) c.evolve.new.work (bin - 1) ready.bodies ready.depth)
+    two_rest g.F.Forces.passes {T = Field} {U = Unit {0}} {V = Field} e bin (ids_at c.args.set.now c.args.fast.now) t (t + c.power.result) c.in-Ok.half c.in-Err-rest.e gr a b d c.requires.timely.some middle one (c.in-Err-rest.ensures.makes c.evolve.new.set (g.F.Forces.gravity c.evolve.new.forces) (g.F.Forces.fixed c.evolve.new.forces) (g.F.Forces.state c.evolve.new.forces) c.evolve.new.work (bin - 1) ready.bodies ready.depth)
 
 pub two_finer-evolve-requires-2 : goal.two_finer-evolve-requires-2
 two_finer-evolve-requires-2 g t' c κs within =
@@ -87,7 +87,7 @@ two_finer-evolve-requires-2 g t' c κs within =
     let ready : IsReady c.args.course.now.setup.now c.args.course.now.total b = ready_made g.F.Forces.passes (bin - 1) (most_of (bin - 1)) t (t + 2 ^ (bin - 1)) (λ stop p. evolve (rules gr e) stop (bin - 1) (ids_at c.args.set.now c.args.fast.now) t p) c.in-Ok.half c.args.course.now.setup.now c.args.course.now.total a b one c.requires.ready in
     let middle : t + c.power.result ≡ t + 2 ^ (bin - 1) = ap (λ x. t + x) c.power.ensures in
     let d = now c.evolve.new.set (g.F.Forces.gravity c.evolve.new.forces) (g.F.Forces.fixed c.evolve.new.forces) (g.F.Forces.state c.evolve.new.forces) (g.O.KickOut.faults c.rest.new.out) (g.O.KickOut.yes c.rest.new.out) (g.O.KickOut.took c.rest.new.out) c.evolve.new.work in
-    let pause = c.in-Ok-rest.ensures c.evolve.new.set (g.F.Forces.gravity c.evolve.new.forces) (g.F.Forces.fixed c.evolve.new.forces) (g.F.Forces.state c.evolve.new.forces) c.evolve.new.work (bin - 1) ready.bodies ready.depth in
+    let pause = c.in-Ok-rest.ensures.makes c.evolve.new.set (g.F.Forces.gravity c.evolve.new.forces) (g.F.Forces.fixed c.evolve.new.forces) (g.F.Forces.state c.evolve.new.forces) c.evolve.new.work (bin - 1) ready.bodies ready.depth in
     let two : 2 ≤ bin = omega (arith, c.requires.low, c.requires.finer) in
     let given : IsGiven (g.F.Forces.gravity c.evolve.new.forces) c.evolve.new.set c.args.fast.now c.in-Ok.half = record { places = ascending_on c.args.set.now c.evolve.new.set c.args.fast.now one.conserved c.requires.quick.places; forces = subst (λ (x : Gravity). AreForcesAmong x (only c.evolve.new.set (ids_at c.evolve.new.set c.args.fast.now)) c.in-Ok.half) (sym one.gravity) c.in-Ok.ensures.forces } in
     let ready' : IsReady c.args.course.now.setup.now c.args.course.now.total d = ready_made g.F.Forces.passes (bin - 1) 0 (t + c.power.result - 1) (t + c.power.result + 1) (λ stop p. rest stop (t + c.power.result) p) tt c.args.course.now.setup.now c.args.course.now.total b d pause ready in
@@ -107,7 +107,7 @@ two_finer-returns-clause-makes g t' c =
     let ready : IsReady c.args.course.now.setup.now c.args.course.now.total b = ready_made g.F.Forces.passes (bin - 1) (most_of (bin - 1)) t (t + 2 ^ (bin - 1)) (λ stop p. evolve (rules gr e) stop (bin - 1) (ids_at c.args.set.now c.args.fast.now) t p) c.in-Ok.half c.args.course.now.setup.now c.args.course.now.total a b one c.requires.ready in
     let middle : t + c.power.result ≡ t + 2 ^ (bin - 1) = ap (λ x. t + x) c.power.ensures in
     let d = now c.evolve.new.set (g.F.Forces.gravity c.evolve.new.forces) (g.F.Forces.fixed c.evolve.new.forces) (g.F.Forces.state c.evolve.new.forces) (g.O.KickOut.faults c.rest.new.out) (g.O.KickOut.yes c.rest.new.out) (g.O.KickOut.took c.rest.new.out) c.evolve.new.work in
-    let pause = c.in-Ok-rest.ensures c.evolve.new.set (g.F.Forces.gravity c.evolve.new.forces) (g.F.Forces.fixed c.evolve.new.forces) (g.F.Forces.state c.evolve.new.forces) c.evolve.new.work (bin - 1) ready.bodies ready.depth in
+    let pause = c.in-Ok-rest.ensures.makes c.evolve.new.set (g.F.Forces.gravity c.evolve.new.forces) (g.F.Forces.fixed c.evolve.new.forces) (g.F.Forces.state c.evolve.new.forces) c.evolve.new.work (bin - 1) ready.bodies ready.depth in
     let z = now c.evolve-2.new.set (g.F.Forces.gravity c.evolve-2.new.forces) (g.F.Forces.fixed c.evolve-2.new.forces) (g.F.Forces.state c.evolve-2.new.forces) (g.O.KickOut.faults c.evolve-2.new.out) (g.O.KickOut.yes c.evolve-2.new.out) (g.O.KickOut.took c.evolve-2.new.out) c.evolve-2.new.work in
     two_whole g.F.Forces.passes {T = Field} {U = Unit {0}} {V = Field} e bin c.args.fast.now t (t + c.power.result) c.in-Ok.half tt c.evolve-2.result a b d z c.requires.timely.some middle one pause c.evolve-2.ensures.makes
 
@@ -628,7 +628,7 @@ evolve-returns-in-Err-tell_part-clause-makes g t' c =
     let part = found.of gr c.requires.ready.setup c.requires.known.forces in
     let test : (bin == gr.setup.low_bin && not (is_empty F)) ≡ c.stops.result = test_is bin gr.setup c.args.course.now.setup.now c.args.set.now c.as_slice-fast.result.now c.stops.result c.requires.ready.setup c.stops.ensures in
     let b = now c.args.set.now (g.F.Forces.gravity c.args.forces.now) (g.F.Forces.fixed c.args.forces.now) (g.F.Forces.state c.args.forces.now) (g.O.KickOut.faults c.tell_part.new.out) (g.O.KickOut.yes c.tell_part.new.out) (g.O.KickOut.took c.tell_part.new.out) c.args.work.now in
-    tell_halts g.F.Forces.passes {T = Unit {0}} {U = Field} (rules gr e) bin P F t c.in-Err-tell_part.e a b c.requires.timely.some part.part is (test ∙ c.if-stops.false) (c.in-Err-tell_part.ensures gr (g.F.Forces.fixed c.args.forces.now) (g.F.Forces.state c.args.forces.now) c.args.work.now bin t)
+    tell_halts g.F.Forces.passes {T = Unit {0}} {U = Field} (rules gr e) bin P F t c.in-Err-tell_part.e a b c.requires.timely.some part.part is (test ∙ c.if-stops.false) (c.in-Err-tell_part.ensures.makes gr (g.F.Forces.fixed c.args.forces.now) (g.F.Forces.state c.args.forces.now) c.args.work.now bin t)
 
 pub evolve-returns-then-fast-part-clause-makes : goal.evolve-returns-then-fast-part-clause-makes
 evolve-returns-then-fast-part-clause-makes g t' c =
@@ -646,7 +646,7 @@ evolve-returns-then-fast-part-clause-makes g t' c =
     let test : (bin == gr.setup.low_bin && not (is_empty F)) ≡ c.stops.result = test_is bin gr.setup c.args.course.now.setup.now c.args.set.now c.as_slice-fast.result.now c.stops.result c.requires.ready.setup c.stops.ensures in
     let b = now c.args.set.now (g.F.Forces.gravity c.args.forces.now) (g.F.Forces.fixed c.args.forces.now) (g.F.Forces.state c.args.forces.now) (g.O.KickOut.faults c.tell_part.new.out) (g.O.KickOut.yes c.tell_part.new.out) (g.O.KickOut.took c.tell_part.new.out) c.args.work.now in
     let z = now c.step_all.new.set (g.F.Forces.gravity c.step_all.new.forces) (g.F.Forces.fixed c.step_all.new.forces) (g.F.Forces.state c.step_all.new.forces) (g.O.KickOut.faults c.step_all.new.out) (g.O.KickOut.yes c.step_all.new.out) (g.O.KickOut.took c.step_all.new.out) c.step_all.new.work in
-    evolve_all g.F.Forces.passes {T = Unit {0}} {U = Field} (rules gr e) bin P F t tt c.step_all.result a b z c.requires.timely.some is (test ∙ c.if-stops.false) (same_lengths c.args.set.now c.as_slice-fast.result.now c.args.part.now c.if-fast-part.true) (c.in-Ok-tell_part.ensures gr (g.F.Forces.fixed c.args.forces.now) (g.F.Forces.state c.args.forces.now) c.args.work.now bin t) c.step_all.ensures.makes
+    evolve_all g.F.Forces.passes {T = Unit {0}} {U = Field} (rules gr e) bin P F t tt c.step_all.result a b z c.requires.timely.some is (test ∙ c.if-stops.false) (same_lengths c.args.set.now c.as_slice-fast.result.now c.args.part.now c.if-fast-part.true) (c.in-Ok-tell_part.ensures.makes gr (g.F.Forces.fixed c.args.forces.now) (g.F.Forces.state c.args.forces.now) c.args.work.now bin t) c.step_all.ensures.makes
 
 pub evolve-returns-clause-makes : goal.evolve-returns-clause-makes
 evolve-returns-clause-makes g t' c =
@@ -664,4 +664,4 @@ evolve-returns-clause-makes g t' c =
     let test : (bin == gr.setup.low_bin && not (is_empty F)) ≡ c.stops.result = test_is bin gr.setup c.args.course.now.setup.now c.args.set.now c.as_slice-fast.result.now c.stops.result c.requires.ready.setup c.stops.ensures in
     let b = now c.args.set.now (g.F.Forces.gravity c.args.forces.now) (g.F.Forces.fixed c.args.forces.now) (g.F.Forces.state c.args.forces.now) (g.O.KickOut.faults c.tell_part.new.out) (g.O.KickOut.yes c.tell_part.new.out) (g.O.KickOut.took c.tell_part.new.out) c.args.work.now in
     let z = now c.step_some.new.set (g.F.Forces.gravity c.step_some.new.forces) (g.F.Forces.fixed c.step_some.new.forces) (g.F.Forces.state c.step_some.new.forces) (g.O.KickOut.faults c.step_some.new.out) (g.O.KickOut.yes c.step_some.new.out) (g.O.KickOut.took c.step_some.new.out) c.step_some.new.work in
-    evolve_some g.F.Forces.passes {T = Unit {0}} {U = Field} (rules gr e) bin P F t tt c.step_some.result a b z c.requires.timely.some is (test ∙ c.if-stops.false) (other_lengths c.args.set.now c.as_slice-fast.result.now c.args.part.now c.if-fast-part.false) (c.in-Ok-tell_part.ensures gr (g.F.Forces.fixed c.args.forces.now) (g.F.Forces.state c.args.forces.now) c.args.work.now bin t) c.step_some.ensures.makes
+    evolve_some g.F.Forces.passes {T = Unit {0}} {U = Field} (rules gr e) bin P F t tt c.step_some.result a b z c.requires.timely.some is (test ∙ c.if-stops.false) (other_lengths c.args.set.now c.as_slice-fast.result.now c.args.part.now c.if-fast-part.false) (c.in-Ok-tell_part.ensures.makes gr (g.F.Forces.fixed c.args.forces.now) (g.F.Forces.state c.args.forces.now) c.args.work.now bin t) c.step_some.ensures.makes

@@ -7,8 +7,8 @@ use Rattle.step_engine.proofs.Joins.{all_there}
 use Rattle.step_engine.proofs.Leaves.{leads_same, broken, telling, quiet_tells}
 use Rattle.step_engine.proofs.tells.tell_part.Goals as goal
 
-pub returns-in-Ok-binned : goal.returns-in-Ok-binned
-returns-in-Ok-binned g c = λ gr fixed state w n tick.
+pub returns-in-Ok-binned-clause-makes : goal.returns-in-Ok-binned-clause-makes
+returns-in-Ok-binned-clause-makes g c = λ gr fixed state w n tick.
     let B = c.args.set.now in
     let F = ids_at B c.args.fast.now in
     let a = now B gr fixed state (g.O.KickOut.faults c.args.out.now) (g.O.KickOut.yes c.args.out.now) (g.O.KickOut.took c.args.out.now) w in
@@ -17,8 +17,8 @@ returns-in-Ok-binned g c = λ gr fixed state w n tick.
     telling g.F.Forces.passes (Unit {0}) n tick (λ p. Binned F) (TookPart F) tt a z (leads_same a z c.requires.bodies refl refl refl refl refl c.in-Ok-binned.ensures.same_yes refl) refl refl refl (λ p. refl)
     (quiet_tells g.F.Forces.passes (Binned F) (TookPart F) a z refl refl refl refl) tt (subst (λ xs. Adds (g.O.KickOut.took c.args.out.now) (g.O.KickOut.took c.binned.new.self) (TookPart xs ∷ [])) part c.in-Ok-binned.ensures.ok) (c.in-Ok-binned.ensures.cause.kept refl)
 
-pub returns-in-Err-binned : goal.returns-in-Err-binned
-returns-in-Err-binned g c = λ gr fixed state w n tick.
+pub returns-in-Err-binned-clause-makes : goal.returns-in-Err-binned-clause-makes
+returns-in-Err-binned-clause-makes g c = λ gr fixed state w n tick.
     let B = c.args.set.now in
     let F = ids_at B c.args.fast.now in
     let a = now B gr fixed state (g.O.KickOut.faults c.args.out.now) (g.O.KickOut.yes c.args.out.now) (g.O.KickOut.took c.args.out.now) w in

@@ -1,0 +1,63 @@
+-- A session leaves its files in one way.
+use Rattle.std.proofs.Common.{◌≡◌, ◌≢◌, ◌⊎◌, ℕ, Bool, true, false, List, [], ◌∷◌, Option, Some, None, IfSome, inl, inr, refl, sym, ap, subst, ◌∙◌, true≢false}
+use Rattle.std.specs.Str.{bytes_eq}
+use Rattle.std.proofs.lemmas.Slice.Eq.{bytes_eq-Decides}
+use Rattle.store_io.specs.Files.{Files}
+use Rattle.nbody_model.specs.declared.field.Event.{Event}
+use Rattle.nbody_model.specs.Bodies.{BodyData}
+use Rattle.nbody_model.specs.Passes.{PassesAll}
+use Rattle.nbody_model.specs.Session.{SessionData}
+use Rattle.nbody_model.specs.Tables.{Gravity}
+use Rattle.param_file.specs.Settings.{ParamsData}
+use Rattle.force_field.specs.Lists.{quiet}
+use Rattle.run_session.specs.Own.{Own, OwnTexts, IsOther, Stands, followed}
+use Rattle.run_session.specs.Outputs.{Leaves, end_mark, session_texts, with_written}
+
+same_or : (n m : List ℕ) → (n ≡ m) ⊎ (n ≢ m)
+same_or n m = by (bytes_eq n m) refl
+  where
+    by : (b : Bool) → bytes_eq n m ≡ b → (n ≡ m) ⊎ (n ≢ m)
+    by true e = inl ((bytes_eq-Decides n m).0 e)
+    by false e = inr (λ q. true≢false (sym ((bytes_eq-Decides n m).1 q) ∙ e))
+
+-- two files of one name, of one text
+at_one : (Y Z : Files) (text n m : List ℕ) → n ≡ m → Y m ≡ Some text → Z m ≡ Some text → Y n ≡ Z n
+at_one Y Z text n m e h k = ap Y e ∙ h ∙ sym k ∙ sym (ap Z e)
+
+-- this name is that of a file which may be there, or another
+at_if : (o : Option (List ℕ)) (Y Z : Files) (text n : List ℕ) → IfSome o (λ m. Y m ≡ Some text) → IfSome o (λ m. Z m ≡ Some text) → (Y n ≡ Z n) ⊎ IfSome o (λ m. n ≢ m)
+at_if None Y Z text n h k = inr tt
+at_if (Some m) Y Z text n h k = by (same_or n m)
+  where
+    by : (n ≡ m) ⊎ (n ≢ m) → (Y n ≡ Z n) ⊎ (n ≢ m)
+    by (inl e) = inl (at_one Y Z text n m e h k)
+    by (inr e) = inr e
+
+stands_one : (o : Own) (t : OwnTexts) (W Y Z : Files) → Stands o t W Y → Stands o t W Z → (n : List ℕ) → Y n ≡ Z n
+stands_one o t W Y Z h k n = by (same_or n o.kicks) (at_if o.trace Y Z t.trace n h.trace k.trace) (at_if o.bins Y Z t.bins n h.bins k.bins)
+  where
+    by : (n ≡ o.kicks) ⊎ (n ≢ o.kicks) → (Y n ≡ Z n) ⊎ IfSome o.trace (λ m. n ≢ m) → (Y n ≡ Z n) ⊎ IfSome o.bins (λ m. n ≢ m) → Y n ≡ Z n
+    by (inl e) trace bins = at_one Y Z t.kicks n o.kicks e h.kicks k.kicks
+    by (inr a) (inl e) bins = e
+    by (inr a) (inr b) (inl e) = e
+    by (inr a) (inr b) (inr c) =
+        let other : IsOther o n = record { kicks = a; trace = b; bins = c } in
+        h.others n other ∙ sym (k.others n other)
+
+-- forces by the list of bodies are found in one way, by no events
+pub events_one : (g : Gravity) (asked : List (List BodyData)) (a b y z : List ℕ) (es fs : List (List Event)) → PassesAll (quiet g []) asked a es y → PassesAll (quiet g []) asked b fs z → es ≡ fs
+events_one g [] a b y z [] [] h k = refl
+events_one g [] a b y z [] (f ∷ fs) h k = absurd k
+events_one g [] a b y z (e ∷ es) fs h k = absurd h
+events_one g (B ∷ asked) a b y z [] fs h k = absurd h
+events_one g (B ∷ asked) a b y z (e ∷ es) [] h k = absurd k
+events_one g (B ∷ asked) a b y z (e ∷ es) (f ∷ fs) h k =
+    let first : e ≡ f = h.1.1.0 ∙ sym k.1.1.0 in
+    let rest : es ≡ fs = events_one g asked h.0 k.0 y z es fs h.2 k.2 in
+    ap (λ x. x ∷ es) first ∙ ap (λ xs. f ∷ xs) rest
+
+pub leaves_one : (p : ParamsData) (o : Own) (d : SessionData) (es fs : List (List Event)) (done : Bool) (F G Y Z : Files) (a b c e : List (List ℕ)) → F ≡ G → es ≡ fs → Leaves p o d es done F Y a b → Leaves p o d fs done G Z c e → (n : List ℕ) → Y n ≡ Z n
+leaves_one p o d es fs done F G Y Z a b c e same events h k =
+    let mine = subst (λ W. Stands o (followed (session_texts d es) (end_mark done)) (with_written p d.written W) Y) same h.files in
+    let texts = subst (λ xs. Stands o (followed (session_texts d xs) (end_mark done)) (with_written p d.written G) Y) events mine in
+    stands_one o (followed (session_texts d fs) (end_mark done)) (with_written p d.written G) Y Z texts k.files

@@ -1,0 +1,18 @@
+use Rattle.std.proofs.Common.{inl}
+use Rattle.gadget.proofs.Begun.{bodies_refused}
+use Rattle.gadget.proofs.begins.load_run.Goals as goal
+
+pub returns-in-Err-clause-err : goal.returns-in-Err-clause-err
+returns-in-Err-clause-err g c = inl c.in-Err.ensures.err
+
+pub returns-in-Err-load_bodies-clause-err : goal.returns-in-Err-load_bodies-clause-err
+returns-in-Err-load_bodies-clause-err g c =
+    let S = g.S.Store in
+    let start = c.args.store.now in
+    let one = c.load_basis.new.store in
+    let two = c.load_bodies.new.store in
+    let b = c.in-Ok.basis in
+    bodies_refused (S.tells start) (S.tells one) (S.file start) (S.file one) (S.faults start) (S.faults one) (S.faults two) (S.last two)
+    c.args.name.now b.params b.outputs.items b.table b.factors c.in-Err-load_bodies.status
+    c.in-Ok.ensures.tells c.in-Ok.ensures.files c.in-Ok.ensures.quiet.0
+    c.in-Ok.ensures.ok c.in-Err-load_bodies.ensures.err

@@ -1,0 +1,5 @@
+use Rattle.gadget.proofs.OneAnswer.{answers_exact}
+use Rattle.gadget.proofs.laws.answers_are_exact.Goals as goal
+
+pub returns : goal.returns
+returns c = answers_exact

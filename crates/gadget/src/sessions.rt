@@ -1,0 +1,111 @@
+// The commands that run: from tick 0, and from a restart file.
+ghost use Rattle.std.specs.Prelude.{◌≡◌, IfSome};
+ghost use Rattle.nbody_model.specs.Setups.{last_tick};
+ghost use Rattle.nbody_model.specs.States.{IsStart};
+ghost use Rattle.nbody_model.specs.Tables.{IsTable, Reaches};
+ghost use Rattle.param_file.specs.Settings.{setup_of};
+ghost use Rattle.run_session.specs.RunEnds.{IsBegun};
+ghost use Rattle.gadget.specs.Begins.{first_state};
+ghost use Rattle.gadget.specs.Answers.{ResumeDoes, RunDoes, SessionEnds, world};
+
+use crate::begins::{load_resume, load_run};
+use crate::inputs::Basis;
+use crate::outcome::Outcome;
+use force_field::ListField;
+use particle_set::BodySet;
+use restart_files::State;
+use run_session::Ended;
+use std::alloc::Global;
+use step_engine::Depths;
+use store_io::{Stopper, Store, Text};
+
+// These bodies at tick 0.
+fn first_state(alloc: Global, set: BodySet) -> State
+    ensures is { result ≡ first_state set }
+    ensures start { IsStart result }
+{
+    State {
+        set,
+        depth: Depths::from_list(Vec::new(alloc)),
+        steps: 0,
+        tick: 0,
+        next_snapshot: 0,
+        next_restart: 0,
+        kicks: 0,
+        interactions: 0,
+    }
+}
+
+// Runs from a state on, with one rank.
+fn run_from<S: Store, Q: Stopper>(
+    alloc: Global,
+    basis: &Basis,
+    state: State,
+    resumed: bool,
+    store: &mut S,
+    stop: &mut Q,
+) -> Ended
+    requires begun { IsBegun (setup_of basis.now.params) resumed state }
+    requires sound { IfSome basis.now.table IsTable }
+    requires reach { IfSome basis.now.factors (λ e. Reaches e (last_tick (setup_of basis.now.params))) }
+    ensures { SessionEnds resumed (S.tells store.old) (world (S.file store.old) (S.closed store.old) (S.faults store.old) (S.last store.old) (Q.yes stop.old) (Q.left stop.old))
+        (world (S.file store.new) (S.closed store.new) (S.faults store.new) (S.last store.new) (Q.yes stop.new) (Q.left stop.new))
+        basis.now.params basis.now.outputs.items basis.now.table basis.now.factors state result }
+{
+    let mut forces = ListField::new(alloc, basis.params.setup(), basis.table.as_ref());
+    run_session::run(
+        alloc,
+        state,
+        resumed,
+        &basis.params,
+        basis.factors.as_ref(),
+        &basis.outputs,
+        &mut forces,
+        store,
+        stop,
+    )
+}
+
+/// A run with one rank from tick 0.
+pub fn run<S: Store, Q: Stopper>(
+    alloc: Global,
+    param: &Text,
+    store: &mut S,
+    stop: &mut Q,
+) -> Outcome
+    ensures { RunDoes (S.tells store.old) (world (S.file store.old) (S.closed store.old) (S.faults store.old) (S.last store.old) (Q.yes stop.old) (Q.left stop.old))
+        (world (S.file store.new) (S.closed store.new) (S.faults store.new) (S.last store.new) (Q.yes stop.new) (Q.left stop.new)) param.now result }
+{
+    let (basis, set) = match load_run(alloc, store, param) {
+        Ok(inputs) => inputs,
+        Err(status) => return Outcome::Refused(status),
+    };
+    let state = first_state(alloc, set);
+    let ended = run_from(alloc, &basis, state, false, store, stop);
+    Outcome::Ran {
+        ended,
+        setup: basis.params.setup(),
+    }
+}
+
+/// A run with one rank that goes on from a restart file.
+pub fn resume<S: Store, Q: Stopper>(
+    alloc: Global,
+    param: &Text,
+    restart: &Text,
+    store: &mut S,
+    stop: &mut Q,
+) -> Outcome
+    ensures { ResumeDoes (S.tells store.old) (world (S.file store.old) (S.closed store.old) (S.faults store.old) (S.last store.old) (Q.yes stop.old) (Q.left stop.old))
+        (world (S.file store.new) (S.closed store.new) (S.faults store.new) (S.last store.new) (Q.yes stop.new) (Q.left stop.new)) param.now restart.now result }
+{
+    let (basis, state) = match load_resume(alloc, store, param, restart) {
+        Ok(inputs) => inputs,
+        Err(status) => return Outcome::Refused(status),
+    };
+    let ended = run_from(alloc, &basis, state, true, store, stop);
+    Outcome::Ran {
+        ended,
+        setup: basis.params.setup(),
+    }
+}

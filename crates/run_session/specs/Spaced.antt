@@ -1,0 +1,15 @@
+-- Words of a line behind its first one.
+use Rattle.std.specs.Prelude.{ℕ, ℤ, List, ◌++◌, codes, decimal}
+use Rattle.std.specs.List.{flat_map}
+use Rattle.std.specs.Fmt.{signed_decimal}
+
+-- a word after a space
+abbrev pub spaced : List ℕ → List ℕ
+spaced word = codes " " ++ word
+
+-- numbers, each after a space
+unfoldable pub spaced_numbers : List ℕ → List ℕ
+spaced_numbers numbers = flat_map (λ n. spaced (decimal n)) numbers
+
+unfoldable pub spaced_signed : List ℤ → List ℕ
+spaced_signed numbers = flat_map (λ z. spaced (signed_decimal z)) numbers

@@ -1,0 +1,301 @@
+-- Where a run stands, and how its parts end.
+use Rattle.std.specs.Prelude.{◌≡◌, ◌≤◌, ◌<◌, ⊤, ◌⊎◌, ℕ, ◌+◌, Bool, false, IsTrue, List, [], ◌∷◌, ◌++◌, length, map, Option, Some, None, IfSome, if◌then◌else◌, not, ◌&&◌, true, nat_lt, ◌%◌, ◌==◌}
+use Rattle.std.specs.List.{flat_map}
+use Rattle.store_io.specs.Files.{Files}
+use Rattle.store_io.specs.Causes.{Call, Rose}
+use Rattle.store_io.specs.Stops.{Asks}
+use Rattle.nbody_model.specs.declared.field.Event.{Event}
+use Rattle.nbody_model.specs.Setups.{last_tick}
+use Rattle.nbody_model.specs.Tables.{Gravity, ExpansionData, Reaches}
+use Rattle.nbody_model.specs.Fields.{FieldData}
+use Rattle.nbody_model.specs.Passes.{PassesAll}
+use Rattle.nbody_model.specs.Evolve.{Happening, Progress, Refusal, Going, Refused, Resting, records_of, asked_of, bins_of, rests_of, is_empty}
+use Rattle.nbody_model.specs.States.{StateData}
+use Rattle.nbody_model.specs.Session.{Plan, SessionData, Written, End, Done, Stopped, asked, advanced, rested, base_step, with_restart, synchronised, session_from, is_done, is_running, is_stop}
+use Rattle.nbody_model.specs.Texts.{kick_text, trace_text, bins_record}
+use Rattle.param_file.specs.Settings.{ParamsData, setup_of}
+use Rattle.step_engine.specs.Told.{Passes, AreForcesAmong}
+use Rattle.step_engine.specs.BaseSteps.{StandsFor}
+use Rattle.run_session.specs.Own.{Own, OwnTexts, Stands, HasPart, IsOther}
+use Rattle.run_session.specs.Changes.{AreThere}
+use Rattle.run_session.specs.Outputs.{file_name, file_bytes, with_file, with_written, found_in, session_texts, LeavesPart}
+use Rattle.run_session.specs.RunEnds.{World, plan_of, IsAnsweredYes, YesBy}
+
+-- ---- what a run goes by
+
+-- the plan, the settings, the names of the files that it keeps open, whether files are told, and what was told at its start
+pub record Basis : Type 0 where
+  pub plan : Plan
+  pub params : ParamsData
+  pub own : Own
+  pub told : Bool
+  pub start : World
+
+abbrev pub basis : Gravity → Option ExpansionData → ParamsData → Own → List ℕ → Bool → World → Basis
+basis g e p own times told start = record { plan = plan_of g e p times; params = p; own = own; told = told; start = start }
+
+-- what is told of a store, of forces and of a stopper
+abbrev pub world : Files → List (List ℕ) → ℕ → Option Call → List ℕ → ℕ → Option ℕ → World
+world files closed faults last state yeses left = record { files = files; closed = closed; faults = faults; last = last; state = state; yes = yeses; left = left }
+
+-- forces stand for the settings, and a table of factors, if there is one, reaches the last tick
+pub record IsSound (plan : Plan) (p : ParamsData) : Type 0 where
+  pub stands : StandsFor plan.rules.gravity (setup_of p)
+  pub spans : IfSome plan.rules.expansion (λ e. Reaches e (last_tick (setup_of p)))
+
+-- states at the same tick: bodies, depths, base steps and tick
+pub record SameTimes (σ τ : StateData) : Type 0 where
+  pub depths : σ.depths ≡ τ.depths
+  pub steps : σ.steps ≡ τ.steps
+  pub tick : σ.tick ≡ τ.tick
+  pub bodies : σ.bodies ≡ τ.bodies
+
+-- no file of a session has the name of one that is kept open
+abbrev pub AreOthers : ParamsData → Own → Type 0
+AreOthers p o = (w : Written) → IsOther o (file_name p w)
+
+-- the files that are kept open go on standing
+abbrev pub KeepsOwn : Own → Bool → Files → Files → Type 0
+KeepsOwn o told old new = IsTrue told → AreThere o old → AreThere o new
+
+-- ---- one file of a session
+
+-- beside the files that are kept open, this file was written, and finished
+pub record WritesFile (p : ParamsData) (o : Own) (w : Written) (told : Bool) (old new : Files) (closed_old closed_new : List (List ℕ)) : Type 0 where
+  pub files : (t : OwnTexts) (W : Files) → IsTrue told → Stands o t W old → Stands o t (with_file (file_name p w) (file_bytes p w) W) new
+  pub closed : IsTrue told → closed_new ≡ closed_old ++ file_name p w ∷ []
+
+-- the files that are kept open hold these texts, and every other one is as in W, or has this name and holds a first part of
+-- these bytes
+pub record StandsBut (o : Own) (t : OwnTexts) (name bytes : List ℕ) (W files : Files) : Type 0 where
+  pub kicks : files o.kicks ≡ Some t.kicks
+  pub trace : IfSome o.trace (λ n. files n ≡ Some t.trace)
+  pub bins : IfSome o.bins (λ n. files n ≡ Some t.bins)
+  pub others : (q : List ℕ) → IsOther o q → (files q ≡ W q) ⊎ ((q ≡ name) × HasPart (files q) bytes)
+
+-- this file was begun at most
+pub record WritesPart (p : ParamsData) (o : Own) (w : Written) (told : Bool) (old new : Files) (closed_old closed_new : List (List ℕ)) : Type 0 where
+  pub files : (t : OwnTexts) (W : Files) → IsTrue told → Stands o t W old → StandsBut o t (file_name p w) (file_bytes p w) W new
+  pub closed : IsTrue told → closed_new ≡ closed_old
+
+-- ---- sessions that grow
+
+-- a list is a first part of another
+pub record IsFirst {X : Type 0} (first whole : List X) : Type 0 where
+  pub more : List X
+  pub is : whole ≡ first ++ more
+
+-- what was written, what happened and what was asked in a session are first parts of those of another
+pub record GrowsTo (d e : SessionData) : Type 0 where
+  pub written : IsFirst d.written e.written
+  pub trail : IsFirst d.trail e.trail
+  pub questions : IsFirst d.questions e.questions
+
+-- ---- the files and the objects against a session
+
+-- so many questions were answered no
+abbrev pub IsLeft : Option ℕ → ℕ → Option ℕ → Type 0
+IsLeft None n None = ⊤
+IsLeft (Some left) n (Some now) = left ≡ n + now
+IsLeft None n (Some now) = ⊥
+IsLeft (Some left) n None = ⊥
+
+-- no fault and no yes was counted, and so many questions were answered no
+pub record IsQuietly (A Z : World) (questions : ℕ) : Type 0 where
+  pub faults : Z.faults ≡ A.faults
+  pub last : Z.last ≡ A.last
+  pub yes : Z.yes ≡ A.yes
+  pub left : IsLeft A.left questions Z.left
+
+-- the files are those of a session so far, and its forces were found one after another
+pub record HasFiles (C : Basis) (passes : Passes) (d : SessionData) (Z : World) : Type 0 where
+  pub events : List (List Event)
+  pub found : PassesAll passes (asked d) C.start.state events Z.state
+  pub files : IsTrue C.told → Stands C.own (session_texts d events) (with_written C.params d.written C.start.files) Z.files
+  pub closed : IsTrue C.told → Z.closed ≡ C.start.closed ++ map (file_name C.params) d.written
+
+-- all is as in a session so far, whose last state this is
+pub record Matches (C : Basis) (passes : Passes) (d : SessionData) (σ : StateData) (Z : World) : Type 0 where
+  pub state : d.state ≡ σ
+  pub files : HasFiles C passes d Z
+  pub quiet : IsQuietly C.start Z (length d.questions)
+
+-- whatever this session so far grows to: the files are left as after a fault in that session
+pub record IsBrokenIn (C : Basis) (passes : Passes) (d : SessionData) (Z : World) : Type 0 where
+  pub left : (e : SessionData) → GrowsTo d e → IsTrue C.told → LeavesPart C.params C.own passes C.start.state e C.start.files Z.files C.start.closed Z.closed
+
+-- ---- what a base step left in memory
+
+-- the texts agree in the files that there are
+pub record AgreeIn (o : Own) (a b : OwnTexts) : Type 0 where
+  pub kicks : a.kicks ≡ b.kicks
+  pub trace : IfSome o.trace (λ n. a.trace ≡ b.trace)
+  pub bins : IfSome o.bins (λ n. a.bins ≡ b.bins)
+
+-- what happened in a step as texts, by the events in which its forces were found
+abbrev pub step_texts : List Happening → List (List Event) → OwnTexts
+step_texts trail events = record {
+  kicks = kick_text (records_of trail);
+  trace = trace_text (found_in (asked_of trail) events);
+  bins = flat_map bins_record (bins_of trail);
+}
+
+-- the log has the texts of what happened in a step, whose forces were found one after another
+pub record IsLogged (o : Own) (passes : Passes) (trail : List Happening) (a z : List ℕ) (log : OwnTexts) : Type 0 where
+  pub events : List (List Event)
+  pub found : PassesAll passes (asked_of trail) a events z
+  pub same : AgreeIn o log (step_texts trail events)
+
+-- ---- a run between two base steps, or before the rest of one
+
+-- the forces among all bodies, if they are known, are these, and the state is one from which a base step or the rest of one
+-- can be made
+pub record IsReady (plan : Plan) (p : ParamsData) (σ : StateData) (field : Option FieldData) : Type 0 where
+  pub sound : IsSound plan p
+  pub known : IfSome field (AreForcesAmong plan.rules.gravity σ.bodies)
+
+-- a stop, if there is one, comes later than this tick; or not before it
+abbrev pub IsLater : ℕ → Option ℕ → Type 0
+IsLater tick None = ⊤
+IsLater tick (Some u) = tick < u
+
+abbrev pub IsFrom : ℕ → Option ℕ → Type 0
+IsFrom tick None = ⊤
+IsFrom tick (Some u) = tick ≤ u
+
+-- the session with this stop has come here, and n more base steps are enough for what is left
+pub record HasCome (C : Basis) (passes : Passes) (sessions : Option ℕ → SessionData) (σ : StateData) (known : Bool) (Z : World) (stop : Option ℕ) : Type 0 where
+  pub d : SessionData
+  pub n : ℕ
+  pub same : sessions stop ≡ session_from n C.plan stop known d
+  pub matches : Matches C passes d σ Z
+  pub end : d.end ≡ Done
+  pub enough : C.plan.rules.gravity.setup.time_max ≤ σ.tick + n
+  pub some : is_empty σ.depths ≡ false → 1 ≤ n
+
+-- what a session makes of a synchronisation
+abbrev pub onwards : ℕ → Plan → Option ℕ → Bool → SessionData → SessionData
+onwards n plan stop known e = if is_done e.end then session_from n plan stop known e else e
+
+-- the session with this stop has come to a synchronisation, which isn't handled yet
+pub record IsAtSync (C : Basis) (passes : Passes) (sessions : Option ℕ → SessionData) (before : Option ℕ) (σ : StateData) (known : Bool) (Z : World) (stop : Option ℕ) : Type 0 where
+  pub d : SessionData
+  pub n : ℕ
+  pub same : sessions stop ≡ onwards n C.plan stop known (synchronised C.plan stop before d)
+  pub matches : Matches C passes d σ Z
+  pub enough : C.plan.rules.gravity.setup.time_max ≤ σ.tick + n
+
+-- the session was stopped at a tick, with these files
+pub record HasStopped (C : Basis) (passes : Passes) (sessions : Option ℕ → SessionData) (σ : StateData) (Z : World) : Type 0 where
+  pub state : (sessions (Some σ.tick)).state ≡ σ
+  pub end : (sessions (Some σ.tick)).end ≡ Stopped
+  pub files : HasFiles C passes (sessions (Some σ.tick)) Z
+  pub faults : Z.faults ≡ C.start.faults
+  pub last : Z.last ≡ C.start.last
+  pub yes : Rose C.start.yes Z.yes
+  pub question : IsAnsweredYes C.start.left (sessions None).questions σ.tick
+
+-- the session has ended so, with these files
+pub record HasEnded (C : Basis) (passes : Passes) (d : SessionData) (why : End) (Z : World) : Type 0 where
+  pub end : d.end ≡ why
+  pub files : HasFiles C passes d Z
+  pub quiet : IsQuietly C.start Z (length d.questions)
+
+-- ---- a synchronisation
+
+-- the stopper is asked there: in a session that goes on, but not at its first tick
+abbrev pub asks_at : Option ℕ → Bool → Bool
+asks_at None running = false
+asks_at (Some before) running = running
+
+-- the answer of a stopper that was asked, or wasn't
+abbrev pub IsAnswer : Bool → Bool → ℕ → ℕ → Option ℕ → Option ℕ → Type 0
+IsAnswer true answer yeses yeses_now left left_now = Asks answer yeses yeses_now left left_now
+IsAnswer false answer yeses yeses_now left left_now = (answer ≡ false) × ((yeses_now ≡ yeses) × (left_now ≡ left))
+
+-- no question was left to be answered no
+abbrev pub IsLast : Option ℕ → ℕ → Type 0
+IsLast None questions = ⊤
+IsLast (Some left) questions = left ≡ questions
+
+-- it was stopped there
+pub record IsHalted (C : Basis) (passes : Passes) (before : Option ℕ) (d : SessionData) (σ : StateData) (Z : World) : Type 0 where
+  pub state : (synchronised C.plan (Some d.state.tick) before d).state ≡ σ
+  pub end : (synchronised C.plan (Some d.state.tick) before d).end ≡ Stopped
+  pub files : HasFiles C passes (synchronised C.plan (Some d.state.tick) before d) Z
+  pub faults : Z.faults ≡ C.start.faults
+  pub last : Z.last ≡ C.start.last
+  pub yes : Rose C.start.yes Z.yes
+  pub asked : asks_at before (is_running C.plan d.state) ≡ true
+  pub question : IsLast C.start.left (length d.questions)
+
+-- it goes on, unless this is the tick to stop at
+pub record GoesOn (C : Basis) (passes : Passes) (before : Option ℕ) (d : SessionData) (σ : StateData) (Z : World) (stop : Option ℕ) : Type 0 where
+  pub matches : Matches C passes (synchronised C.plan stop before d) σ Z
+  pub end : (synchronised C.plan stop before d).end ≡ Done
+
+abbrev pub SyncEnds : Basis → Passes → Option ℕ → SessionData → StateData → Bool → World → Type 0
+SyncEnds C passes before d σ true Z = IsHalted C passes before d σ Z
+SyncEnds C passes before d σ false Z = (stop : Option ℕ) → is_stop stop d.state.tick ≡ false → GoesOn C passes before d σ Z stop
+
+-- the stop of a session that was stopped at a tick, or wasn't
+abbrev pub stop_if : Bool → ℕ → Option ℕ
+stop_if true tick = Some tick
+stop_if false tick = None
+
+-- it was broken off there, after a yes or without one
+pub record SyncBreaks (C : Basis) (passes : Passes) (before : Option ℕ) (d : SessionData) (answer : Bool) (Z : World) : Type 0 where
+  pub yes : YesBy (stop_if answer d.state.tick) C.start.yes Z.yes
+  pub left : IsBrokenIn C passes (synchronised C.plan (stop_if answer d.state.tick) before d) Z
+
+-- a restart file is written after so many base steps
+abbrev pub kept_after : ℕ → ℕ → Bool → Bool
+kept_after every steps running = running && (not (every == 0) && (nat_lt 0 steps && steps % every == 0))
+
+-- ---- a base step of a run
+
+-- so many questions were answered no in a step, and then, if it rests, one was answered yes
+abbrev pub IsLeftIn : Option ℕ → List ℕ → Option ℕ → Type 0
+IsLeftIn left rests left_now = IsLeft left (length rests) left_now
+
+-- the last of these questions was answered yes, where the number left is told
+abbrev pub IsLastOf : Option ℕ → List ℕ → Type 0
+IsLastOf None rests = ⊤
+IsLastOf (Some left) rests = left + 1 ≡ length rests
+
+-- the whole step, for this stop
+pub record IsWhole (plan : Plan) (o : Own) (passes : Passes) (known : Bool) (σ τ : StateData) (log : OwnTexts) (A Z : World) (stop : Option ℕ) : Type 0 where
+  pub p : Progress
+  pub is : base_step plan stop known σ ≡ Going p
+  pub state : τ ≡ advanced plan p σ
+  pub logged : IsLogged o passes p.trail A.state Z.state log
+  pub left : IsLeftIn A.left (rests_of p.trail) Z.left
+
+-- it rests
+pub record IsAtRest (plan : Plan) (o : Own) (passes : Passes) (known : Bool) (σ τ : StateData) (log : OwnTexts) (A Z : World) : Type 0 where
+  pub p : Progress
+  pub parts : List (List ℕ)
+  pub is : base_step plan (Some τ.tick) known σ ≡ Resting p τ.tick parts
+  pub state : τ ≡ rested p τ.tick parts σ
+  pub logged : IsLogged o passes p.trail A.state Z.state log
+  pub yes : Rose A.yes Z.yes
+  pub left : IsLastOf A.left (rests_of p.trail)
+
+-- it is refused
+pub record IsOut (plan : Plan) (o : Own) (passes : Passes) (known : Bool) (σ : StateData) (why : Refusal) (log : OwnTexts) (A Z : World) : Type 0 where
+  pub p : Progress
+  pub is : base_step plan None known σ ≡ Refused p why
+  pub logged : IsLogged o passes p.trail A.state Z.state log
+  pub left : IsLeftIn A.left (rests_of p.trail) Z.left
+
+-- the session was stopped at rest, and its restart file is still to be written
+pub record RestsIn (C : Basis) (passes : Passes) (sessions : Option ℕ → SessionData) (τ : StateData) (Z : World) : Type 0 where
+  pub d : SessionData
+  pub is : sessions (Some τ.tick) ≡ with_restart true d
+  pub state : d.state ≡ τ
+  pub end : d.end ≡ Stopped
+  pub files : HasFiles C passes d Z
+  pub faults : Z.faults ≡ C.start.faults
+  pub last : Z.last ≡ C.start.last
+  pub yes : Rose C.start.yes Z.yes
+  pub question : IsAnsweredYes C.start.left (sessions None).questions τ.tick
