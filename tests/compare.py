@@ -1,13 +1,18 @@
 #!/usr/bin/env python3
 """Compares `gadget` with another program of the same commands, case by case.
 
-    tests/compare.py [--seed N] [--count N] [--kinds forces,bins,tables,expansions,parameters,lists,snapshots,runs] [--jobs N] OTHER..
+    tests/compare.py [--seed N] [--count N] [--jobs N] [--kinds KIND,..] OTHER..
 
-OTHER.. is the command line of the other program; the words of a case are put behind it. Each case is made from
-the seed and its number: some files and some words. Both programs are run on them in folders of their own, and
-their status, what they print and all files that they leave are compared. Each difference is printed with the
-case's folder, which is then kept. A case that `gadget` answers `not built` is counted apart.
-The last line tells the numbers; the exit status is 0 where nothing differs.
+The kinds are forces, bins, tables, expansions, parameters, lists, snapshots, runs, restarts and sessions; without
+`--kinds` all of them. OTHER.. is the command line of the other program, behind `--` where it has options; the words
+of a case are put behind it. Each case is made from the seed and its number: some files and some words. Both programs
+are run on them in folders of their own, and their status, what they print and all files that they leave are compared.
+Of a usage line the other program's may go on with more commands. A case of `sessions` has many calls: a run unbroken,
+the same run stopped at each of its questions in turn, and a resumed run from each restart file; resumed runs are
+compared with the unbroken one too. One case of `restarts` in 300 has a call for each length to which a restart file
+can be cut.
+Each difference is printed with the case's folder, which is then kept. A case that `gadget` answers `not built` is
+counted apart. The last line tells the numbers; the exit status is 0 where nothing differs.
 """
 import argparse
 import concurrent.futures
@@ -20,7 +25,8 @@ import sys
 import tempfile
 
 TOP = os.path.dirname(os.path.dirname(os.path.abspath(__file__)))
-NOT_BUILT = 9
+STOPPED, USAGE, NOT_BUILT = 1, 2, 9
+RUN = ["run", "param.txt", "1"]
 
 ROWS = [
     ("InitCondFile", "ics.dat", None), ("SnapshotFileBase", "snapshot", None),
@@ -37,6 +43,7 @@ ROWS = [
 OPTIONAL = {"OutputListFilename", "EwaldTableFile", "RestartFileBase", "KickFile", "RankTraceFile", "RestartEvery",
             "RankTrace", "DeliverySeed", "ExpansionTableFile", "BinFile"} | {"SofteningType%d" % k for k in range(1, 6)}
 LEFT_OUT = {"OutputListFilename", "EwaldTableFile", "ExpansionTableFile", "BinFile"}
+SETTINGS = ROWS[7:19]
 
 
 # ---- files that are right
@@ -76,6 +83,10 @@ def parameter_lines(rng, changes=(), leave=0.5):
             continue
         lines.append("%s %s" % (name, values[name]))
     return lines
+
+
+def lines_text(lines):
+    return ("\n".join(str(line) for line in lines) + "\n").encode()
 
 
 # ---- changes that may make them wrong
@@ -144,7 +155,7 @@ def asked(data):
     """`run`, or `check` where the parameters may ask for more steps than anybody waits for."""
     words = data.split()
     is_long = any(len(value) > 3 for name, value in zip(words, words[1:]) if name == b"TimeMax")
-    return ["check", "param.txt"] if is_long else ["run", "param.txt", "1"]
+    return ["check", "param.txt"] if is_long else RUN
 
 
 def parameters(rng):
@@ -171,10 +182,10 @@ def lists(rng):
                                    ("LowBin", bin_), ("TopBin", bin_)])
     if int(dict(line.split(" ", 1) for line in params)["TimeMax"]) > 64 * 2**bin_:
         params = [line if not line.startswith("TimeMax") else "TimeMax %d" % (8 * 2**bin_) for line in params]
-    files = {"param.txt": ("\n".join(params) + "\n").encode(), "outputs.txt": data, "ics.dat": snapshot(some_bodies(rng, 2))}
+    files = {"param.txt": lines_text(params), "outputs.txt": data, "ics.dat": snapshot(some_bodies(rng, 2))}
     if rng.random() < 0.02:
         del files["outputs.txt"]
-    return files, ["run", "param.txt", "1"]
+    return files, RUN
 
 
 def split_blocks(data):
@@ -240,8 +251,8 @@ def snapshots(rng):
             data = bad_snapshot(rng, data)
         except (struct.error, KeyError, IndexError, ValueError):
             data = flip(rng, data)
-    params = ("\n".join(parameter_lines(rng)) + "\n").encode()
-    words = rng.choice([["run", "param.txt", "1"], ["check", "param.txt"], ["show", "ics.dat"]])
+    params = lines_text(parameter_lines(rng))
+    words = rng.choice([RUN, ["check", "param.txt"], ["show", "ics.dat"]])
     return {"param.txt": params, "ics.dat": data}, words
 
 
@@ -251,7 +262,7 @@ def runs(rng):
     params = parameter_lines(rng, [("TimeMax", rng.randint(1, 2**bin_)), ("LowBin", bin_), ("TopBin", bin_),
                                    ("VelocityShift", rng.choice([0, 4, 20, 40])), ("ErrTolIntAccuracy", rng.choice([1, 31246, 65536])),
                                    ("GravityConstantInternal", rng.choice([0, 1048576, 2**32]))])
-    return {"param.txt": ("\n".join(params) + "\n").encode(), "ics.dat": snapshot(bodies)}, ["run", "param.txt", "1"]
+    return {"param.txt": lines_text(params), "ics.dat": snapshot(bodies)}, RUN
 
 
 def table(rng):
@@ -287,8 +298,8 @@ def forces(rng):
     if rng.random() < 0.5:
         changes.append(("EwaldTableFile", "table.dat"))
         files["table.dat"] = table(rng)
-    files["param.txt"] = ("\n".join(parameter_lines(rng, changes)) + "\n").encode()
-    return files, ["run", "param.txt", "1"]
+    files["param.txt"] = lines_text(parameter_lines(rng, changes))
+    return files, RUN
 
 
 def expansion(rng, last):
@@ -303,8 +314,16 @@ def expansion(rng, last):
     return b"I4EXPAN1" + struct.pack("<II", s, n) + entries
 
 
+def put_on_edge(rng, bodies):
+    """Momenta at the edge of their range: of one body or of all, on one axis or on all."""
+    axes = rng.choice([[rng.randrange(3)], [0, 1, 2], [0, 1, 2]])
+    for body in rng.choice([bodies, [rng.choice(bodies)]]):
+        for axis in axes:
+            body["mom"][axis] = rng.choice([1, -1]) * (2**62 - rng.choice([0, 0, 0, 5, 2**20]))
+
+
 def bins(rng):
-    """Several bins, with and without a table of factors."""
+    """Several bins, with and without a table of factors and a file of finer bins."""
     top = rng.randint(1, 6)
     low = rng.randint(1, top)
     time_max = rng.choice([1, 2**top, 2**top + 1, 2**(top + 1)])
@@ -313,14 +332,16 @@ def bins(rng):
                ("VelocityShift", rng.choice([0, 2, 4, 4, 6, 10])), ("ErrTolIntAccuracy", rng.choice([65536, 65536, 31246, 2000, 60])),
                ("GravityConstantInternal", rng.choice([1024, 1048576, 2**26, 2**32])), ("SofteningType2", 8192)]
     bodies = near_bodies(rng, 2, 8)
-    if rng.random() < 0.12 and bodies:
-        rng.choice(bodies)["mom"][rng.randrange(3)] = rng.choice([2**62, 2**62 - 5, -2**62])
+    if rng.random() < 0.3:
+        put_on_edge(rng, bodies)
     files = {"ics.dat": snapshot(bodies)}
     if rng.random() < 0.4:
         changes.append(("ExpansionTableFile", "expansion.dat"))
         files["expansion.dat"] = expansion(rng, last)
-    files["param.txt"] = ("\n".join(parameter_lines(rng, changes)) + "\n").encode()
-    return files, ["run", "param.txt", "1"]
+    if rng.random() < 0.5:
+        changes.append(("BinFile", "bins.dat"))
+    files["param.txt"] = lines_text(parameter_lines(rng, changes))
+    return files, RUN
 
 
 def expansions(rng):
@@ -333,10 +354,10 @@ def expansions(rng):
     if rng.random() < 0.5:
         data = flip(rng, data)
     params = parameter_lines(rng, [("ExpansionTableFile", "expansion.dat"), ("TimeMax", time_max)])
-    files = {"param.txt": ("\n".join(params) + "\n").encode(), "expansion.dat": data, "ics.dat": snapshot(some_bodies(rng, 3))}
+    files = {"param.txt": lines_text(params), "expansion.dat": data, "ics.dat": snapshot(some_bodies(rng, 3))}
     if rng.random() < 0.03:
         del files["expansion.dat"]
-    return files, rng.choice([["run", "param.txt", "1"], ["check", "param.txt"]])
+    return files, rng.choice([RUN, ["check", "param.txt"]])
 
 
 def tables(rng):
@@ -348,66 +369,378 @@ def tables(rng):
     if rng.random() < 0.6:
         data = flip(rng, data)
     params = parameter_lines(rng, [("EwaldTableFile", "table.dat")])
-    files = {"param.txt": ("\n".join(params) + "\n").encode(), "table.dat": data, "ics.dat": snapshot(some_bodies(rng, 3))}
+    files = {"param.txt": lines_text(params), "table.dat": data, "ics.dat": snapshot(some_bodies(rng, 3))}
     if rng.random() < 0.03:
         del files["table.dat"]
-    return files, rng.choice([["run", "param.txt", "1"], ["check", "param.txt"]])
+    return files, rng.choice([RUN, ["check", "param.txt"]])
 
 
+# ---- restart files
+
+def paces(rng, bodies, bin_):
+    """Accuracy, gravity and velocity shift by which the fastest body about fits the bin, all softening lengths being 256."""
+    most = 1
+    for one in bodies:
+        pull = 0
+        for other in bodies:
+            ways = [abs((x - y + 2**31) % 2**32 - 2**31) for x, y in zip(one["pos"], other["pos"])]
+            pull += 2**64 * other["mass"] * sum(ways) // int((sum(way * way for way in ways) + 65536)**1.5)
+        most = max(most, pull)
+    for _ in range(20):
+        accuracy, shift = rng.choice([60, 2000, 31246, 65536]), rng.choice([0, 4, 10, 20, 30])
+        gravity = 2**64 * (accuracy * 512 * 2**shift // 65536) // (most * 4**bin_)
+        if 16 <= gravity <= 2**32:
+            break
+    return [accuracy, min(gravity, 2**32) // rng.choice([1, 2, 3]), shift]
+
+
+def restart(state):
+    """A restart file by its fields; each body has a depth in version 2."""
+    deep = state["version"] == 2
+    text = b"I4RESTRT" + struct.pack("<II5Q", *(state[name] for name in ("version", "count", "steps", "tick", "snapshots", "restarts", "kicks")))
+    text += state["interactions"].to_bytes(16, "little") + struct.pack("<12Q", *state["settings"])
+    for body in state["bodies"]:
+        text += struct.pack("<QII3I3q", body["id"], body["kind"], body["mass"], *body["pos"], *body["mom"])
+        text += struct.pack("<I", body["depth"]) if deep else b""
+    return text + state["end"]
+
+
+def counters(rng):
+    few = [0, 1, 3, 998, 999]
+    return dict(snapshots=rng.choice(few + [2**32 - 1, 2**32, 2**64 - 1]), restarts=rng.choice(few + [2**64 - 1]),
+                kicks=rng.choice(few + [2**64 - 1]), interactions=rng.choice(few + [2**64 - 1, 2**128 - 1]))
+
+
+def kept_state(rng):
+    """A state from which a run goes on for one or two base steps, at a synchronisation or inside a base step."""
+    deep = rng.random() < 0.6
+    top = rng.choice([2, 3, 4, 5, 5]) if deep or rng.random() < 0.8 else rng.choice([1, 20])
+    low = rng.randint(1, top - deep) if top < 20 else 20
+    unit = 2**top
+    steps = rng.choice([0, 1, 2, 5, rng.randrange(2**10), 2**40 // unit - 1])
+    time_max = min(2**40, steps * unit + rng.choice([1, unit // 2, unit, unit + 1, 2 * unit]))
+    bin_ = rng.randint(low, top - 1) if deep else top
+    tick = steps * unit + (2 * rng.randrange(2**(top - bin_ - 1)) + 1) * 2**bin_ if deep else steps * unit
+    settings = [time_max, low, top, rng.choice([0, 128, 256]), rng.choice([65536, 31246, 1]), rng.choice([0, 1024, 1048576, 2**32]),
+                rng.choice([0, 4, 20, 40])] + [rng.choice([256, 8192, 2**30]) for _ in range(5)]
+    bodies = sorted(near_bodies(rng, int(deep), 5), key=lambda body: body["id"])
+    if rng.random() < 0.5:
+        settings[4:7] = paces(rng, bodies, low)
+    for body in bodies:
+        body["depth"] = rng.randint(0, top - bin_)
+    return dict(counters(rng), version=1 + deep, count=len(bodies), steps=steps, tick=tick, unit=unit, settings=settings, bodies=bodies, end=b"I4RESEND")
+
+
+def change_head(rng, state):
+    unit, count, steps, tick = state["unit"], state["count"], state["steps"], state["tick"]
+    name, values = rng.choice([
+        ("version", [0, 1, 2, 3, 257, 2**32 - 1]),
+        ("count", [0, count + 1, max(0, count - 1), 1048576, 1048577, 2**32 - 1]),
+        ("steps", [steps + 1, max(0, steps - 1), steps + 2**64 // unit, 2**63, 2**64 - 1]),
+        ("tick", [0, tick + 1, max(0, tick - 1), tick + unit, tick ^ unit // 2, tick ^ unit // 4, tick | 2**63, 2**64 - 1]),
+        ("end", [b"I4RESEN", b"I4RESENd", b"", b"I4RESEND\0", b"I4RESTRT"])])
+    state[name] = rng.choice(values)
+
+
+def change_setting(rng, state):
+    at = rng.choice([0, 1, 2, rng.randrange(12)])
+    low, high = SETTINGS[at][2]
+    values = [max(0, low - 1), low, high, high + 1, rng.randint(low, high), 2**63, 2**64 - 1]
+    if at == 0:
+        values = [state["tick"], state["tick"] + 1, max(0, state["tick"] - 1), state["steps"] * state["unit"], 2**40, 2**40 + 1, 0, 2**64 - 1]
+    if at == 2:
+        values += [state["settings"][1], state["settings"][1] - 1, 21]
+    state["settings"][at] = rng.choice(values) % 2**64
+
+
+def change_body(rng, state):
+    if not state["bodies"]:
+        return
+    at = rng.randrange(len(state["bodies"]))
+    body = state["bodies"][at]
+    kind = rng.randrange(6)
+    if kind == 0:
+        body["id"] = rng.choice([0, 2**64 - 1, state["bodies"][at - 1]["id"], state["bodies"][at - 1]["id"] + 1])
+    elif kind == 1:
+        body["kind"] = rng.choice([0, 1, 5, 6, 257, 2**32 - 1])
+    elif kind == 2:
+        body["depth"] = rng.choice([body["depth"] + 1, body["depth"] + 2, 0, 256, 257, 2**32 - 1])
+    elif kind == 3:
+        body["mass"] = rng.choice([0, 0, 2**32 - 1, 2**31])
+    elif kind == 4:
+        body["mom"][rng.randrange(3)] = rng.choice([2**62, 2**62 + 1, -2**62, -2**62 - 1, 2**63 - 1, -2**63])
+    else:
+        for one in state["bodies"]:
+            one["mass"] = rng.choice([2**31, 2**31 - 1, 2**31 + 1])
+
+
+def change_words(rng, words):
+    ranks = ["resume", "param.txt", words[2], rng.choice(["0", "2", "256", "257", "x", "01", "+1", ""])]
+    return rng.choice([words[:3], words + ["1"], ranks, ranks, ranks,
+                       words[:1] + [rng.choice(["absent", "p" * 200, "p" * 201, "ics.dat"])] + words[2:],
+                       words[:2] + [rng.choice(["restart_001", "ics.dat", "param.txt", "r" * 221, "r" * 222, "", "a b", "\u00e9", "a\x7f"]), "1"],
+                       ["Resume"] + words[1:], ["check", "param.txt"], ["show", "restart_000"]])
+
+
+def beside_restart(rng, state):
+    """The parameter file of a state and what it names."""
+    changes = [(row[0], value) for row, value in zip(SETTINGS, state["settings"])] + [("RestartEvery", rng.choice([0, 1, 2]))]
+    files = {"ics.dat": snapshot([])} if rng.random() < 0.8 else {}
+    time_max, unit = state["settings"][0], state["unit"]
+    if rng.random() < 0.3:
+        near = [state["tick"] + rng.choice([-1, 0, 1, unit - 1, unit]) for _ in range(3)]
+        files["outputs.txt"] = lines_text(max(0, tick) for tick in near)
+        changes.append(("OutputListFilename", "outputs.txt"))
+    if rng.random() < 0.2 and time_max < 2**12:
+        files["expansion.dat"] = expansion(rng, -(-time_max // unit) * unit)
+        changes.append(("ExpansionTableFile", "expansion.dat"))
+    if rng.random() < 0.2:
+        changes.append(("BinFile", "bins.dat"))
+    if rng.random() < 0.25:
+        files["stop"] = b""
+    files["param.txt"] = lines_text(parameter_lines(rng, changes))
+    return files
+
+
+def restarts(rng):
+    state = kept_state(rng)
+    files = beside_restart(rng, state)
+    for change in rng.choice([[], [], [], [change_head], [change_setting], [change_body], [change_body], [change_head, change_body], [change_setting, change_setting]]):
+        change(rng, state)
+    data = restart(state)
+    how = rng.random()
+    if how < 0.1:
+        data = data[:rng.choice([rng.randrange(len(data) + 1), 7, 8, 175, 176, len(data) - 1])]
+    elif how < 0.2:
+        data = flip(rng, data)
+    elif how < 0.25:
+        data += bytes(rng.choice([1, 4, 8, 52, 56]))
+    elif how < 0.35:
+        name, _, (low, high) = rng.choice(SETTINGS[3:])
+        files["param.txt"] = lines_text("%s %d" % (name, rng.randint(low, high)) if line.startswith(name + " ") else line
+                                        for line in files["param.txt"].decode().splitlines())
+    if rng.random() < 0.98:
+        files["restart_000"] = data
+    words = ["resume", "param.txt", "restart_000", "1"]
+    return files, change_words(rng, words) if rng.random() < 0.1 else words
+
+
+def restarts_case(rng, both):
+    """One call, or one for each length to which a restart file can be cut."""
+    if rng.random() * 300 >= 1:
+        return both.once(*restarts(rng))
+    state = kept_state(rng)
+    state["bodies"], state["count"] = state["bodies"][:2], len(state["bodies"][:2])
+    both.fill(beside_restart(rng, state))
+    data = restart(state)
+    for length in range(len(data)):
+        both.fill({"restart_000": data[:length]})
+        both.call(["resume", "param.txt", "restart_000", "1"])
+
+
+# ---- sessions
+
+def session(rng):
+    """The files of a run of several base steps, in most of which some bodies make finer steps."""
+    top = rng.randint(1, 5)
+    low = rng.choice([rng.randint(1, top), max(1, top - 2), max(1, top - 3)])
+    unit = 2**top
+    time_max = rng.randint(1, 6) * unit - rng.choice([0, 0, 1, unit // 2, unit - 1])
+    bodies = near_bodies(rng, 1, 8)
+    accuracy, gravity, shift = paces(rng, bodies, rng.randint(low, max(low, top - 1)))
+    if rng.random() < 0.1:
+        put_on_edge(rng, bodies)
+    changes = [("TimeMax", time_max), ("LowBin", low), ("TopBin", top), ("ErrTolTheta", rng.choice([0, 128, 256])), ("ErrTolIntAccuracy", accuracy),
+               ("VelocityShift", shift), ("GravityConstantInternal", gravity), ("RestartEvery", rng.randint(0, 3))]
+    files = {"ics.dat": snapshot(bodies)}
+    for name, file_name, data in [("ExpansionTableFile", "expansion.dat", expansion(rng, -(-time_max // unit) * unit)),
+                                  ("EwaldTableFile", "table.dat", table(rng)), ("BinFile", "bins.dat", None), ("OutputListFilename", "outputs.txt", ticks(rng, time_max, unit))]:
+        if rng.random() < (0.75 if name == "OutputListFilename" else 0.4):
+            changes.append((name, file_name))
+            if data is not None:
+                files[file_name] = data
+    files["param.txt"] = lines_text(parameter_lines(rng, changes))
+    return files
+
+
+def ticks(rng, time_max, unit):
+    """Ticks at, between and beyond synchronisations."""
+    last = -(-time_max // unit)
+    return lines_text(rng.choice([0, rng.randint(0, last) * unit, rng.randint(0, last) * unit + rng.choice([1, unit - 1]), rng.randint(0, last * unit),
+                                  time_max, last * unit + 1, 2**40]) for _ in range(rng.choice([0, 1, 3, 6])))
+
+
+def numbered(files, base):
+    return {name: data for name, data in files.items() if name.startswith(base + "_") and name[len(base) + 1:].isdigit()}
+
+
+def goes_on(kept, name, whole, part):
+    """What a run resumed from `kept` has otherwise than the unbroken one, by the numbers that `kept` has."""
+    snapshots, _, kicks = struct.unpack_from("<3Q", kept, 32)
+    later = {number: data for number, data in numbered(whole[2], "snapshot").items() if int(number[9:]) >= snapshots}
+    written = numbered(part[2], "snapshot")
+    lines = whole[2]["kicks.txt"].splitlines(True)[kicks:]
+    steps, tick = struct.unpack_from("<2Q", kept, 16)
+    kick_file = "kicks.txt_from_%d" % steps + ("_at_%d" % tick if kept[8] == 2 else "")
+    stopped = part[0] == STOPPED
+    wrong = []
+    if not stopped and part[:2] != whole[:2]:
+        wrong.append("answers %r, unbroken %r" % (part[:2], whole[:2]))
+    if any(later.get(number) != data for number, data in written.items()) or not (stopped or later == written):
+        wrong.append("writes the snapshots %s, unbroken %s" % (sorted(written), sorted(later)))
+    got = part[2].get(kick_file, b"none").splitlines(True)
+    if got != lines[:len(got)] or not (stopped or got == lines):
+        wrong.append("writes other kick lines")
+    return ["resumed from %s it %s" % (name, what) for what in wrong]
+
+
+def sessions_case(rng, both):
+    """A run unbroken; stopped at each of its questions in turn; and resumed from each restart file of both."""
+    files = dict(session(rng))
+    whole = both.beside("whole").fill(files)
+    unbroken = whole.call(RUN)
+    chain = both.beside("chain").fill(dict(files, stop=b""))
+    words, kept, name = RUN, None, None
+    while True:
+        before = chain.files()
+        part = chain.call(words)
+        if kept is not None:
+            part = part[:2] + ({file: data for file, data in part[2].items() if before.get(file) != data},)
+            both.wrong += goes_on(kept, name, unbroken, part)
+        new = [file for file in numbered(part[2], "restart") if file not in before]
+        if part[0] != STOPPED or not new or both.wrong:
+            break
+        name = max(new, key=lambda file: int(file[8:]))
+        kept, words = part[2][name], ["resume", "param.txt", name, "1"]
+    if part[:2] != unbroken[:2] or numbered(chain.files(), "snapshot") != numbered(unbroken[2], "snapshot"):
+        both.wrong.append("after stops it ends %r, unbroken %r" % (part[:2], unbroken[:2]))
+    for source in (whole, chain):
+        resume_from_each(both, source, unbroken)
+
+
+def resume_from_each(both, source, unbroken):
+    """In a copy of the folder, without `stop` and the snapshots, so that those that are written show."""
+    for name, kept in sorted(numbered(source.files(), "restart").items()):
+        again = source.copy("again", lambda file: file != "stop" and not file.startswith("snapshot_"))
+        part = again.call(["resume", "param.txt", name, "1"])
+        both.wrong += goes_on(kept, name, unbroken, part)
+        if both.wrong:
+            return
+        again.drop()
+
+
+# Of a staged kind a case makes its own calls; of the others it is one call.
 KINDS = {"forces": forces, "bins": bins, "tables": tables, "expansions": expansions, "parameters": parameters, "lists": lists, "snapshots": snapshots, "runs": runs}
+STAGED = {"restarts": restarts_case, "sessions": sessions_case}
 
 
 # ---- running
 
-def left_by(command, files, words, folder):
-    os.makedirs(folder)
-    for name, data in files.items():
-        with open(os.path.join(folder, name), "wb") as out:
-            out.write(data)
-    done = subprocess.run(command + words, cwd=folder, stdin=subprocess.DEVNULL, stdout=subprocess.PIPE, stderr=subprocess.PIPE, timeout=600)
+def files_in(folder):
     left = {}
     for name in sorted(os.listdir(folder)):
         with open(os.path.join(folder, name), "rb") as got:
             left[name] = got.read()
-    return done.returncode, done.stdout, left
+    return left
+
+
+def is_same(mine, theirs):
+    """Equal statuses, outputs and files; the other program's usage line may go on with more commands."""
+    is_usage = mine[0] == USAGE and theirs[1].startswith(mine[1].rstrip(b"\n") + b" |")
+    return mine[0] == theirs[0] and mine[2] == theirs[2] and (mine[1] == theirs[1] or is_usage)
+
+
+class Both:
+    """Both programs, each in a folder of its own that goes on from call to call, and what was found."""
+
+    def __init__(self, other, folder, found=None):
+        self.other, self.folder = other, folder
+        self.folders = [os.path.join(folder, name) for name in ("gadget", "other")]
+        found = found or self
+        if found is self:
+            self.statuses, self.wrong = [], []
+        else:
+            self.statuses, self.wrong = found.statuses, found.wrong
+
+    def beside(self, name):
+        return Both(self.other, os.path.join(self.folder, name), self)
+
+    def fill(self, files):
+        for folder in self.folders:
+            os.makedirs(folder, exist_ok=True)
+            for name, data in files.items():
+                with open(os.path.join(folder, name), "wb") as out:
+                    out.write(data)
+        return self
+
+    def copy(self, name, wanted):
+        again = Both(self.other, self.folder + "-" + name, self)
+        for source, target in zip(self.folders, again.folders):
+            os.makedirs(target)
+            for file in filter(wanted, os.listdir(source)):
+                shutil.copyfile(os.path.join(source, file), os.path.join(target, file))
+        return again
+
+    def drop(self):
+        shutil.rmtree(self.folder)
+
+    def files(self):
+        return files_in(self.folders[0])
+
+    def call(self, words):
+        """What `gadget` answers and leaves; where the other program does otherwise, that is noted."""
+        mine = answer([os.path.join(TOP, "gadget")], words, self.folders[0])
+        self.statuses.append(mine[0])
+        if mine[0] != NOT_BUILT:
+            theirs = answer(self.other, words, self.folders[1])
+            if not is_same(mine, theirs):
+                files = [name for name in set(mine[2]) | set(theirs[2]) if mine[2].get(name) != theirs[2].get(name)]
+                self.wrong.append("%s: %r against %r, files %s" % (" ".join(words), mine[:2], theirs[:2], files))
+        return mine
+
+    def once(self, files, words):
+        self.fill(files).call(words)
+
+
+def answer(command, words, folder):
+    done = subprocess.run(command + words, cwd=folder, stdin=subprocess.DEVNULL, stdout=subprocess.PIPE, stderr=subprocess.PIPE, timeout=600)
+    return done.returncode, done.stdout, files_in(folder)
 
 
 def case(kind, seed, number, other):
     rng = random.Random("%s %d %d" % (kind, seed, number))
-    files, words = KINDS[kind](rng)
     folder = tempfile.mkdtemp(prefix="gadget-compare-")
-    mine = left_by([os.path.join(TOP, "gadget")], files, words, os.path.join(folder, "gadget"))
-    if mine[0] == NOT_BUILT:
+    both = Both(other, folder)
+    if kind in STAGED:
+        STAGED[kind](rng, both)
+    else:
+        both.once(*KINDS[kind](rng))
+    if not both.wrong:
         shutil.rmtree(folder)
-        return kind, number, mine[0], None, folder
-    theirs = left_by(other, files, words, os.path.join(folder, "other"))
-    if mine == theirs:
-        shutil.rmtree(folder)
-        return kind, number, mine[0], True, folder
-    return kind, number, mine[0], (mine[:2], theirs[:2], [n for n in set(mine[2]) | set(theirs[2]) if mine[2].get(n) != theirs[2].get(n)]), folder
+    return kind, number, both.statuses, both.wrong, folder
 
 
 def main():
     parser = argparse.ArgumentParser()
     parser.add_argument("--seed", type=int, default=1)
     parser.add_argument("--count", type=int, default=500, help="cases of each kind")
-    parser.add_argument("--kinds", default=",".join(KINDS))
+    parser.add_argument("--kinds", default=",".join([*KINDS, *STAGED]))
     parser.add_argument("--jobs", type=int, default=2)
     parser.add_argument("other", nargs="+")
     args = parser.parse_args()
-    statuses, unbuilt, different = {}, 0, 0
+    statuses, different = {}, 0
     with concurrent.futures.ThreadPoolExecutor(args.jobs) as pool:
         waiting = [pool.submit(case, kind, args.seed, number, args.other) for kind in args.kinds.split(",") for number in range(args.count)]
         for done in concurrent.futures.as_completed(waiting):
-            kind, number, status, result, folder = done.result()
-            statuses[status] = statuses.get(status, 0) + 1
-            if result is None:
-                unbuilt += 1
-            elif result is not True:
-                different += 1
-                print("%s %d differs in %s: %r against %r, files %s" % (kind, number, folder, result[0], result[1], result[2]))
+            kind, number, found, wrong, folder = done.result()
+            for status in found:
+                statuses[status] = statuses.get(status, 0) + 1
+            different += bool(wrong)
+            for what in wrong:
+                print("%s %d differs in %s: %s" % (kind, number, folder, what), flush=True)
     told = ", ".join("%d: %d" % pair for pair in sorted(statuses.items()))
-    print("%d cases, %d differ, %d not built; by status %s" % (len(waiting), different, unbuilt, told))
+    print("%d cases of %d calls, %d differ, %d calls not built; by status %s"
+          % (len(waiting), sum(statuses.values()), different, statuses.get(NOT_BUILT, 0), told))
     return 1 if different else 0
 
 
