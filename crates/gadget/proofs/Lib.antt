@@ -17,3 +17,4 @@ pub mod OneFile
 pub mod OneReading
 pub mod OneAnswer
 pub mod OneEnd
+pub mod Resumes

@@ -10,7 +10,7 @@ use Rattle.nbody_model.specs.Tables.{Gravity, TableData, ExpansionData}
 use Rattle.param_file.specs.Settings.{ParamsData, setup_of}
 use Rattle.force_field.specs.Lists.{quiet}
 use Rattle.run_session.specs.declared.ended.Ended.{Ended}
-use Rattle.run_session.specs.RunEnds.{World, RunEnds, plan_of}
+use Rattle.run_session.specs.RunEnds.{World, RunEnds}
 use Rattle.gadget.specs.declared.status.Status.{Status}
 use Rattle.gadget.specs.declared.status.Status.TheVariants.{Usage, Memory, ConsoleFault, NotBuilt}
 use Rattle.gadget.specs.declared.outcome.Outcome.{Outcome}
@@ -18,7 +18,7 @@ use Rattle.gadget.specs.declared.outcome.Outcome.TheVariants.{Ran, Checked, Show
 use Rattle.gadget.specs.Commands.{Asked, nothing, unbuilt, run, resume, check, show}
 use Rattle.gadget.specs.Reads.{Seen}
 use Rattle.gadget.specs.Snapshots.{NamesSnapshot, SnapshotRefusal}
-use Rattle.gadget.specs.Begins.{BeginsWith, RunRefusal, GoesOnFrom, ResumeRefusal, first_state}
+use Rattle.gadget.specs.Begins.{BeginsWith, RunRefusal, GoesOnFrom, GoesOnAsKept, ResumeRefusal, first_state, plan_by}
 use Rattle.gadget.specs.Outcomes.{status_of, text_of}
 
 -- ---- what is told before and after
@@ -50,7 +50,7 @@ pub record Untouched (A Z : World) : Type 0 where
 abbrev pub SessionEnds : Bool → Bool → World → World → ParamsData → List ℕ → Option TableData → Option ExpansionData → StateData → Ended → Type 0
 SessionEnds resumed told A Z p times table factors σ ended =
     let g : Gravity = record { setup = setup_of p; table = table } in
-    RunEnds (plan_of g factors p times) p resumed σ (quiet g []) told A Z ended
+    RunEnds (plan_by p times table factors) p resumed σ (quiet g []) told A Z ended
 
 -- the inputs of a run are accepted, and from tick 0 it came to this end
 pub record IsRun (told : Bool) (A Z : World) (name : List ℕ) (ended : Ended) (s : SetupData) : Type 0 where
@@ -63,7 +63,8 @@ pub record IsRun (told : Bool) (A Z : World) (name : List ℕ) (ended : Ended) (
   pub ends : SessionEnds false told A Z params times table factors (first_state bodies) ended
   pub setup : s ≡ setup_of params
 
--- the inputs of a run that is resumed are accepted, and from the state of the restart file it came to this end
+-- the inputs of a run that is resumed are accepted, and from the state of the restart file it came to this end; its session
+-- goes on exactly as any run from tick 0 that kept the file
 pub record IsResumed (told : Bool) (A Z : World) (name restart : List ℕ) (ended : Ended) (s : SetupData) : Type 0 where
   pub params : ParamsData
   pub times : List ℕ
@@ -71,6 +72,7 @@ pub record IsResumed (told : Bool) (A Z : World) (name restart : List ℕ) (ende
   pub factors : Option ExpansionData
   pub state : StateData
   pub accepted : IsTrue told → GoesOnFrom A.files name restart params times table factors state
+  pub goes_on : IsTrue told → GoesOnAsKept A.files restart (plan_by params times table factors) state
   pub ends : SessionEnds true told A Z params times table factors state ended
   pub setup : s ≡ setup_of params
 

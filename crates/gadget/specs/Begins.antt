@@ -1,11 +1,14 @@
 -- What a run begins with: tick 0 by a snapshot, or the state of a restart file; and why it doesn't begin.
-use Rattle.std.specs.Prelude.{◌⊎◌, ℕ, IsTrue, List, [], Option}
+use Rattle.std.specs.Prelude.{◌≡◌, ◌⊎◌, ℕ, IsTrue, List, [], Option, Some}
 use Rattle.store_io.specs.Files.{Files}
 use Rattle.nbody_model.specs.Bodies.{BodyData}
 use Rattle.nbody_model.specs.Setups.{SetupData}
 use Rattle.nbody_model.specs.States.{StateData}
 use Rattle.nbody_model.specs.Tables.{TableData, ExpansionData}
+use Rattle.nbody_model.specs.Session.{Plan}
 use Rattle.param_file.specs.Settings.{ParamsData, setup_of}
+use Rattle.restart_laws.specs.Kept.{GoesOnFromBytes}
+use Rattle.run_session.specs.RunEnds.{plan_of}
 use Rattle.gadget.specs.declared.status.Status.{Status}
 use Rattle.gadget.specs.Reads.{Seen}
 use Rattle.gadget.specs.Inputs.{Accepts, FirstRefusal}
@@ -37,6 +40,15 @@ abbrev pub RunRefusal : Seen → List ℕ → Status → Type 0
 RunRefusal s name status = FirstRefusal s name status ⊎ RefusesBodies s name status
 
 -- ---- a run that is resumed
+
+-- what a run by these inputs goes by
+abbrev pub plan_by : ParamsData → List ℕ → Option TableData → Option ExpansionData → Plan
+plan_by p times table factors = plan_of (record { setup = setup_of p; table = table }) factors p times
+
+-- whatever run from tick 0 by this plan has a state whose restart file is the file of this name: a session that is resumed
+-- from ρ goes on as that run does where it isn't stopped
+abbrev pub GoesOnAsKept : Files → List ℕ → Plan → StateData → Type 0
+GoesOnAsKept files restart plan ρ = (bytes : List ℕ) → files restart ≡ Some bytes → GoesOnFromBytes plan bytes ρ
 
 -- the parameter file of this name, and the list and the tables that it names are these, and the restart file of the other
 -- name keeps this state, by the same settings

@@ -1,6 +1,6 @@
 // The commands that run: from tick 0, and from a restart file.
 ghost use Rattle.std.specs.Prelude.{◌≡◌, IfSome};
-ghost use Rattle.nbody_model.specs.Setups.{last_tick};
+ghost use Rattle.nbody_model.specs.Setups.{IsSetup, last_tick};
 ghost use Rattle.nbody_model.specs.States.{IsStart};
 ghost use Rattle.nbody_model.specs.Tables.{IsTable, Reaches};
 ghost use Rattle.param_file.specs.Settings.{setup_of};
@@ -12,6 +12,8 @@ use crate::begins::{load_resume, load_run};
 use crate::inputs::Basis;
 use crate::outcome::Outcome;
 use force_field::ListField;
+use nbody_model::Setup;
+use param_file::Params;
 use particle_set::BodySet;
 use restart_files::State;
 use run_session::Ended;
@@ -34,6 +36,16 @@ fn first_state(alloc: Global, set: BodySet) -> State
         kicks: 0,
         interactions: 0,
     }
+}
+
+// The settings that fix forces and steps, each in its range.
+fn setup_of(params: &Params) -> Setup
+    ensures is { result ≡ setup_of params.now }
+    ensures ranges { IsSetup (setup_of params.now) }
+{
+    let setup = params.setup();
+    let _time_max = setup.time_max;
+    setup
 }
 
 // Runs from a state on, with one rank.
@@ -81,14 +93,12 @@ pub fn run<S: Store, Q: Stopper>(
         Err(status) => return Outcome::Refused(status),
     };
     let state = first_state(alloc, set);
+    let setup = setup_of(&basis.params);
     let ended = run_from(alloc, &basis, state, false, store, stop);
-    Outcome::Ran {
-        ended,
-        setup: basis.params.setup(),
-    }
+    Outcome::Ran { ended, setup }
 }
 
-/// A run with one rank that goes on from a restart file.
+/// A run with one rank that goes on from a restart file, as each run from tick 0 that kept the file.
 pub fn resume<S: Store, Q: Stopper>(
     alloc: Global,
     param: &Text,
@@ -103,9 +113,7 @@ pub fn resume<S: Store, Q: Stopper>(
         Ok(inputs) => inputs,
         Err(status) => return Outcome::Refused(status),
     };
+    let setup = setup_of(&basis.params);
     let ended = run_from(alloc, &basis, state, true, store, stop);
-    Outcome::Ran {
-        ended,
-        setup: basis.params.setup(),
-    }
+    Outcome::Ran { ended, setup }
 }

@@ -3,6 +3,7 @@ use fixed_point::Memory;
 use std::test::Fail;
 use store_io::{LastSchedule, MemSink, MemStore, NeverStop};
 
+mod cuts;
 mod forces;
 mod runs;
 mod stops;
@@ -389,5 +390,18 @@ fn snapshots_are_answered(rt: HostRuntime) -> Result<(), Fail> {
             "at {want}"
         );
     }
+    let mut untagged = Vec::from_slice(alloc, whole.get(..20).ok_or("short")?)?;
+    untagged.extend_from_slice(&[0; 8])?;
+    untagged.extend_from_slice(whole.get(28..).ok_or("short")?)?;
+    store.put(&text(alloc, b"snap")?, &untagged)?;
+    assert!(rt;
+        says(
+            alloc,
+            &["show", "snap"],
+            &mut store,
+            13,
+            "snapshot head tag\n"
+        )?
+    );
     Ok(())
 }

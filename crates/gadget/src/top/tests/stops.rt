@@ -3,7 +3,8 @@ use super::runs::{FOUR_DONE, LIST, TWO_DONE, four_steps, two_bins, two_bins_end}
 use super::*;
 use store_io::StopAfter;
 
-const RESUME: [&str; 4] = ["resume", "param.txt", "restart_000", "1"];
+/// Goes on from the first restart file.
+pub const RESUME: [&str; 4] = ["resume", "param.txt", "restart_000", "1"];
 
 // Numbers of 64 bits, one behind the other.
 fn push_numbers(out: &mut Vec<u8>, numbers: &[u64]) -> Result<(), Memory> {
@@ -24,8 +25,8 @@ fn push_deep(out: &mut Vec<u8>, body: Placed, depth: u32) -> Result<(), Memory> 
     Ok(())
 }
 
-// The restart file of the run in two bins, stopped in the middle of its base step; written out by hand.
-fn rest_state(alloc: Global) -> Result<Vec<u8>, Memory> {
+/// The restart file of the run in two bins, stopped in the middle of its base step; written out by hand.
+pub fn rest_state(alloc: Global) -> Result<Vec<u8>, Memory> {
     let mut out = Vec::from_slice(alloc, b"I4RESTRT")?;
     out.extend_from_slice(&2u32.to_le_bytes())?;
     out.extend_from_slice(&2u32.to_le_bytes())?;

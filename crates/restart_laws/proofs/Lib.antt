@@ -1,0 +1,4 @@
+pub mod Bodies
+pub mod Resting
+pub mod Sessions
+pub mod Laws
