@@ -102,7 +102,11 @@ fn cut_snapshot_line(alloc: Global, len: usize) -> Result<String, Memory> {
     if len == begin {
         return Ok(format!(in alloc; "snapshot missing block {block}\n")?);
     }
-    let place = if len - begin < 16 { begin } else { begin + 16 };
+    let place = if len.saturating_sub(begin) < 16 {
+        begin
+    } else {
+        begin.saturating_add(16)
+    };
     Ok(format!(in alloc; "snapshot truncated at {place}\n")?)
 }
 
