@@ -13,7 +13,9 @@ pub use memory::Memory;
 pub use momentum::scale_in_range;
 pub use quotient::{floor_div_mod, trunc_div};
 pub use root::isqrt;
-pub use words::{signed64, word32, word64};
+pub use words::{
+    push_bytes, push_three_signed, push_three_words, push_word32, push_word64, push_word128, signed64, word32, word64,
+};
 
 /// Three numbers, one for each axis.
 #[derive(Clone, Copy, Debug, PartialEq, Eq)]

@@ -9,7 +9,7 @@ use Rattle.nbody_model.specs.Evolve.{MomRange as MomentumOut, StepRange as StepO
 use Rattle.nbody_model.specs.Session.{SessionData, End, OutOfRange, asked, session}
 use Rattle.nbody_model.specs.Session.{Done as SessionDone, Stopped as SessionStopped}
 use Rattle.param_file.specs.Settings.{ParamsData, setup_of}
-use Rattle.step_engine.specs.Told.{Passes}
+use Rattle.nbody_model.specs.Passes.{Passes}
 use Rattle.force_field.specs.Lists.{quiet}
 use Rattle.snap_file.specs.declared.head.Head.{Head}
 use Rattle.snap_file.specs.Snapshots.{SpellsHead, SpellsSnapshot}

@@ -2,6 +2,7 @@
 use Rattle.std.specs.Prelude.{◌≡◌, ◌≤◌, ◌<◌, ℕ, Bool, true, IsTrue, IfSome, List, length, Option, Some, None}
 use Rattle.store_io.specs.Causes.{Call, Rose}
 use Rattle.store_io.specs.Files.{Files}
+use Rattle.store_io.specs.declared.store.Store as store
 use Rattle.store_io.specs.declared.errors.ReadErr.{ReadErr}
 use Rattle.store_io.specs.declared.errors.ReadErr.TheVariants.{Absent as NoFile, Failed as NotReadable, TooLong as TooMany, Memory as NoMemory}
 use Rattle.gadget.specs.declared.status.Status.{Status}
@@ -14,6 +15,10 @@ pub record Seen : Type 0 where
   pub faults : ℕ
   pub faults_new : ℕ
   pub last : Option Call
+
+-- what a store tells of a call that changes no file
+abbrev pub seen_by : {X : Type 0} → store.Ghosts X → X → X → Seen
+seen_by S old new = record { tells = S.tells old; files = S.file old; faults = S.faults old; faults_new = S.faults new; last = S.last new }
 
 -- a file of this name stands, has these bytes, and isn't longer than the limit
 pub record WasRead (files : Files) (name : List ℕ) (limit : ℕ) (bytes : List ℕ) : Type 0 where

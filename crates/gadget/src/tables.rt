@@ -1,8 +1,9 @@
 // The table of corrections that a parameter file may name.
-ghost use Rattle.std.specs.Prelude.{◌≡◌, IsTrue, IfOk, IfErr, IfSome, OnOk};
+ghost use Rattle.std.specs.Prelude.{IfOk, IfErr, IfSome, OnOk};
 ghost use Rattle.nbody_model.specs.Tables.{IsTable};
 ghost use Rattle.ewald_table.specs.TableFile.{Spell as SpellTable};
-ghost use Rattle.gadget.specs.Reads.{Seen};
+ghost use Rattle.gadget.specs.Reads.{seen_by};
+ghost use Rattle.store_io.specs.Told.{IsQuiet, KeepsFiles, Tells};
 ghost use Rattle.gadget.specs.Tables.{GivesTable, NamedTableRefusal, NamesTable, TableAnswer, TableRefusal};
 
 use crate::inputs::read_file;
@@ -31,19 +32,11 @@ fn table_of(alloc: Global, bytes: &[u8]) -> Result<Table, Status>
 
 // Reads a table.
 fn load_table<S: Store>(alloc: Global, store: &mut S, name: &Text) -> Result<Table, Status>
-    ensures tells { S.tells store.new ≡ S.tells store.old }
-    ensures files { S.file store.new ≡ S.file store.old }
-    ensures closed { S.closed store.new ≡ S.closed store.old }
-    ensures ok { IfOk result (λ t. IsTrue (S.tells store.old) → NamesTable (S.file store.old) name.now t) }
+    ensures keeps { KeepsFiles S.Store store.old store.new }
+    ensures ok { IfOk result (λ t. Tells S.Store store.old → NamesTable (S.file store.old) name.now t) }
     ensures sound { IfOk result IsTable }
-    ensures quiet { OnOk result ((S.faults store.new ≡ S.faults store.old) × (S.last store.new ≡ S.last store.old)) }
-    ensures err { IfErr result (NamedTableRefusal (record {
-      tells = S.tells store.old;
-      files = S.file store.old;
-      faults = S.faults store.old;
-      faults_new = S.faults store.new;
-      last = S.last store.new;
-    }) name.now) }
+    ensures quiet { OnOk result (IsQuiet S.Store store.old store.new) }
+    ensures err { IfErr result (NamedTableRefusal (seen_by S.Store store.old store.new) name.now) }
 {
     let bytes = match read_file(alloc, store, name, LONGEST_TABLE) {
         Ok(bytes) => bytes,
@@ -58,20 +51,11 @@ pub fn load_corrections<S: Store>(
     store: &mut S,
     params: &Params,
 ) -> Result<Option<Table>, Status>
-    ensures tells { S.tells store.new ≡ S.tells store.old }
-    ensures files { S.file store.new ≡ S.file store.old }
-    ensures closed { S.closed store.new ≡ S.closed store.old }
-    ensures ok { IfOk result (λ t. IsTrue (S.tells store.old)
-        → GivesTable (S.file store.old) params.now.ewald_table_file t) }
+    ensures keeps { KeepsFiles S.Store store.old store.new }
+    ensures ok { IfOk result (λ t. Tells S.Store store.old → GivesTable (S.file store.old) params.now.ewald_table_file t) }
     ensures sound { IfOk result (λ t. IfSome t IsTable) }
-    ensures quiet { OnOk result ((S.faults store.new ≡ S.faults store.old) × (S.last store.new ≡ S.last store.old)) }
-    ensures err { IfErr result (TableRefusal (record {
-      tells = S.tells store.old;
-      files = S.file store.old;
-      faults = S.faults store.old;
-      faults_new = S.faults store.new;
-      last = S.last store.new;
-    }) params.now.ewald_table_file) }
+    ensures quiet { OnOk result (IsQuiet S.Store store.old store.new) }
+    ensures err { IfErr result (TableRefusal (seen_by S.Store store.old store.new) params.now.ewald_table_file) }
 {
     match &params.ewald_table_file {
         Some(name) => match load_table(alloc, store, name) {

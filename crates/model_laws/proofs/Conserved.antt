@@ -15,11 +15,11 @@ use Rattle.nbody_model.specs.Steps.{at_each, drifted, drift, change, kicked_by, 
 use Rattle.nbody_model.specs.Evolve.{Happening, Binned, Asked, Kicked, Rested, record_in, records_of, Progress, tell, MomRange, Stepped, Going, Refused, Resting, record_of, is_empty, ask_if, kick, evolve}
 use Rattle.nbody_model.specs.States.{StateData}
 use Rattle.nbody_model.specs.Continue.{continue}
-use Rattle.nbody_model.specs.Session.{Plan, SessionData, Done, Stopped, OutOfRange, with_snapshot, with_restart, is_due, is_kept, is_running, is_stop, synchronised, advanced, rested, with_trail, base_step, is_done, session_from, session}
+use Rattle.nbody_model.specs.Session.{Plan, SessionData, Done, Stopped, OutOfRange, with_snapshot, with_restart, is_due, is_kept, is_running, is_stop, synchronised, advanced, rested, with_trail, base_step, is_done, session_from, session, tells}
 use Rattle.model_laws.specs.Laws.{AreBodies}
 use Rattle.model_laws.specs.Still.{SamePlaces}
 use Rattle.model_laws.specs.Preserved.{IsPart, Holds, IsPreserved}
-use Rattle.model_laws.specs.Conserved.{unmoved, tells, IsConserved, start_of, EvolvesConserve, ContinuesConserve, SessionsConserve}
+use Rattle.model_laws.specs.Conserved.{unmoved, IsConserved, start_of, EvolvesConserve, ContinuesConserve, SessionsConserve}
 use Rattle.model_laws.proofs.Still.{map-mapped, map-same, kicks_move_nothing, positions_still}
 use Rattle.model_laws.proofs.Kept.{kick_keeps, drift_total}
 use Rattle.model_laws.proofs.Preserved.{evolves, continues}

@@ -3,23 +3,18 @@ use Rattle.std.specs.Prelude.{◌≡◌, ℕ, Bool, List, [], ◌∷◌, map, Op
 use Rattle.std.specs.List.{AllByRecursion}
 use Rattle.fixed_point.specs.declared.V3.{V3}
 use Rattle.fixed_point.specs.Vectors.{origin}
-use Rattle.nbody_model.specs.declared.kicks.Record.{Record}
 use Rattle.nbody_model.specs.Bodies.{BodyData, total}
 use Rattle.nbody_model.specs.Tables.{Rules}
 use Rattle.nbody_model.specs.Evolve.{Happening, records_of, Progress, evolve}
 use Rattle.nbody_model.specs.Continue.{continue}
 use Rattle.model_laws.specs.Preserved.{Holds}
 use Rattle.nbody_model.specs.States.{StateData}
-use Rattle.nbody_model.specs.Session.{Plan, session}
+use Rattle.nbody_model.specs.Session.{Plan, session, tells}
 use Rattle.model_laws.specs.Laws.{AreBodies}
 
 -- a body without its motion: id, kind and mass
 abbrev pub unmoved : BodyData → BodyData
 unmoved b = record b { motion = record { pos = record { x = 0; y = 0; z = 0 }; mom = origin } }
-
--- what a record tells of the momentum of all bodies
-abbrev pub tells : V3 → Record → Type 0
-tells p k = k.total ≡ p.x ∷ p.y ∷ p.z ∷ []
 
 -- from the bodies B on these bodies were reached, and these things happened: the bodies are as many, in their order,
 -- with the same ids, kinds and masses and the same momentum together, and each kick tells that momentum

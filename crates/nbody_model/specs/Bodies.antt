@@ -1,11 +1,15 @@
 -- Bodies as data.
-use Rattle.std.specs.Prelude.{ℕ, ℤ, pos, ◌^◌, ◌≤◌, List, length, map, sum_by, get_or, Bool, filter, ◌==◌}
+use Rattle.std.specs.Prelude.{ℕ, ℤ, pos, ◌^◌, ◌≤◌, List, [], ◌∷◌, length, map, sum_by, get_or, Bool, filter, ◌==◌}
 use Rattle.std.specs.List.{list_any}
 use Rattle.std.specs.List.Sorted.{IsStrictlyIncreasing}
 use Rattle.fixed_point.specs.declared.V3.{V3}
 use Rattle.fixed_point.specs.Fixed.{IsMomentum}
 use Rattle.fixed_point.specs.Vectors.{sum_of}
 use Rattle.cell_space.specs.Cells.{Position}
+
+-- the components of a vector
+abbrev pub components : V3 → List ℤ
+components v = v.x ∷ v.y ∷ v.z ∷ []
 
 -- three numbers, one per axis
 abbrev pub vector : List ℤ → V3

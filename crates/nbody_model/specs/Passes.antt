@@ -3,9 +3,12 @@ use Rattle.std.specs.Prelude.{◌≡◌, ℕ, List, [], ◌∷◌}
 use Rattle.nbody_model.specs.declared.field.Event.{Event}
 use Rattle.nbody_model.specs.Bodies.{BodyData}
 
--- from a state the forces among these lists of bodies are found in order, by these lists of events, and leave a state;
--- `passes` says so of one force
-abbrev pub PassesAll : (List BodyData → List ℕ → List Event → List ℕ → Type 0) → List (List BodyData) → List ℕ → List (List Event) → List ℕ → Type 0
+-- how the forces among some bodies may be found: from a state, by events, to a state
+abbrev pub Passes : Type 1
+Passes = List BodyData → List ℕ → List Event → List ℕ → Type 0
+
+-- from a state the forces among these lists of bodies are found in order, by these lists of events, and leave a state
+abbrev pub PassesAll : Passes → List (List BodyData) → List ℕ → List (List Event) → List ℕ → Type 0
 PassesAll passes [] a [] z = a ≡ z
 PassesAll passes [] a (es ∷ events) z = ⊥
 PassesAll passes (B ∷ asked) a [] z = ⊥

@@ -1,9 +1,10 @@
 -- A session: base steps, and what is written at each synchronisation (after GADGET's main loop with its list of
 -- output times and its restart files; the exact order is this project's own).
-use Rattle.std.specs.Prelude.{ℕ, zero, suc, ◌+◌, ◌*◌, ◌%◌, ◌^◌, Bool, true, false, not, ◌&&◌, ◌||◌, ◌==◌, nat_lt, nat_le, List, [], ◌∷◌, ◌++◌, length, map, sum_by, Option, Some, None, if◌then◌else◌}
+use Rattle.std.specs.Prelude.{◌≡◌, ℕ, zero, suc, ◌+◌, ◌*◌, ◌%◌, ◌^◌, Bool, true, false, not, ◌&&◌, ◌||◌, ◌==◌, nat_lt, nat_le, List, [], ◌∷◌, ◌++◌, length, map, sum_by, Option, Some, None, if◌then◌else◌}
 use Rattle.std.specs.List.{list_any}
 use Rattle.nbody_model.specs.declared.kicks.Record.{Record}
-use Rattle.nbody_model.specs.Bodies.{BodyData}
+use Rattle.fixed_point.specs.declared.V3.{V3}
+use Rattle.nbody_model.specs.Bodies.{BodyData, components}
 use Rattle.nbody_model.specs.Tables.{Rules}
 use Rattle.nbody_model.specs.Evolve.{Progress, Happening, Refusal, Stepped, Going, Refused, Resting, records_of, asked_of, bins_of, rests_of, depths_of, is_empty, ask_if, evolve}
 use Rattle.nbody_model.specs.States.{StateData}
@@ -48,6 +49,10 @@ asked d = asked_of d.trail
 
 abbrev pub bins : SessionData → List (List ℕ)
 bins d = bins_of d.trail
+
+-- the record of a kick tells this momentum of all bodies
+abbrev pub tells : V3 → Record → Type 0
+tells p k = k.total ≡ components p
 
 -- ---- counters, and how far a session goes
 

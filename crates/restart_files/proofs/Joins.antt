@@ -4,6 +4,7 @@ use Rattle.std.specs.List.{flat_map}
 use Rattle.std.proofs.lemmas.Grind.{flat_map-append}
 use Rattle.std.proofs.lemmas.List.{take_more}
 use Rattle.fixed_point.specs.Bytes.{bytes64, bytes128}
+use Rattle.fixed_point.proofs.Joins.{six}
 use Rattle.nbody_model.specs.Bodies.{BodyData}
 use Rattle.nbody_model.specs.Setups.{SetupData}
 use Rattle.nbody_model.specs.States.{StateData}
@@ -11,13 +12,6 @@ use Rattle.nbody_model.specs.Evolve.{is_empty}
 use Rattle.nbody_model.specs.RestartText.{restart_text, rest_text, whole_text}
 use Rattle.restart_files.specs.Stored.{HasDepths}
 use Rattle.restart_files.specs.Texts.{counters_text}
-
-pub on_ok : {T E P Q : Type 0} (r : Result T E) → (P → Q) → OnOk r P → OnOk r Q
-on_ok (Ok x) f p = f p
-on_ok (Err e) f p = tt
-
-pub six : (a b c d e f o p q r s t u : List ℕ) → p ≡ o ++ a → q ≡ p ++ b → r ≡ q ++ c → s ≡ r ++ d → t ≡ s ++ e → u ≡ t ++ f → u ≡ o ++ (a ++ b ++ c ++ d ++ e ++ f)
-six a b c d e f o p q r s t u e1 e2 e3 e4 e5 e6 = rw (e6, e5, e4, e3, e2, e1) (simp append_assoc)
 
 pub counted : (σ : StateData) (o p q r s t u : List ℕ) → p ≡ o ++ bytes64 σ.steps → q ≡ p ++ bytes64 σ.tick → r ≡ q ++ bytes64 σ.next_snapshot → s ≡ r ++ bytes64 σ.next_restart → t ≡ s ++ bytes64 σ.kicks
     → u ≡ t ++ bytes128 σ.interactions → u ≡ o ++ counters_text σ
@@ -31,9 +25,6 @@ headed a b c d e f g h i j o p q r s t e1 e2 e3 e4 e5 = rw (e5, e4, e3, e2, e1) 
 -- three numbers, and twice three
 pub embodied : (a b c d e f g h i o p q r s t : List ℕ) → p ≡ o ++ a → q ≡ p ++ b → r ≡ q ++ c → s ≡ r ++ d ++ e ++ f → t ≡ s ++ g ++ h ++ i → t ≡ o ++ (a ++ b ++ c ++ d ++ e ++ f ++ g ++ h ++ i)
 embodied a b c d e f g h i o p q r s t e1 e2 e3 e4 e5 = rw (e5, e4, e3, e2, e1) (simp append_assoc)
-
-pub two : (a b o p q : List ℕ) → p ≡ o ++ a → q ≡ p ++ b → q ≡ o ++ (a ++ b)
-two a b o p q e1 e2 = rw (e2, e1) (simp append_assoc)
 
 -- one more element, whatever stands past the end
 pub one_more : {A : Type 0} (f : A → List ℕ) (xs : List A) (i : ℕ) (d : A) (o p q : List ℕ) → i < length xs → p ≡ o ++ flat_map f (take i xs) → q ≡ p ++ f (get_or xs i d) → q ≡ o ++ flat_map f (take (i + 1) xs)

@@ -2,14 +2,13 @@
 ghost use Rattle.std.specs.Prelude.{◌≡◌, ◌≤◌, ◌<◌, ◌∷◌, [], ◌++◌, length, slice_index, get_or, pos, codes, IfOk, OnOk};
 ghost use Rattle.std.specs.List.{flat_map, zip};
 ghost use Rattle.nbody_model.specs.Bodies.{BodyData};
-ghost use Rattle.fixed_point.specs.Bytes.{bytes32, bytes64, signed_bytes64};
+ghost use Rattle.fixed_point.specs.Bytes.{bytes32, bytes64};
 ghost use Rattle.nbody_model.specs.RestartText.{body_bytes, restart_head, restart_text, rest_text, setup_numbers, whole_text};
 ghost use Rattle.restart_files.specs.Texts.{counters_text, deep_body_bytes};
 
 use crate::State;
 use crate::head::{END_MARK, TAG};
-use crate::numbers::{push_bytes, push_word32, push_word64, push_word128};
-use fixed_point::Memory;
+use fixed_point::{Memory, push_bytes, push_three_signed, push_three_words, push_word32, push_word64, push_word128};
 use nbody_model::{Body, Setup};
 use std::alloc::Global;
 
@@ -66,24 +65,6 @@ fn push_head(out: &mut Vec<u8>, version: u32, state: &State, setup: &Setup) -> R
     push_numbers(out, &numbers_of(setup))
 }
 
-fn push_position(out: &mut Vec<u8>, at: [u32; 3]) -> Result<(), Memory>
-    ensures { OnOk result (out.new.items ≡ out.old.items
-        ++ bytes32 (slice_index at 0) ++ bytes32 (slice_index at 1) ++ bytes32 (slice_index at 2)) }
-{
-    push_word32(out, at[0])?;
-    push_word32(out, at[1])?;
-    push_word32(out, at[2])
-}
-
-fn push_momentum(out: &mut Vec<u8>, mom: [i64; 3]) -> Result<(), Memory>
-    ensures { OnOk result (out.new.items ≡ out.old.items
-        ++ signed_bytes64 (get_or mom 0 (pos 0)) ++ signed_bytes64 (get_or mom 1 (pos 0)) ++ signed_bytes64 (get_or mom 2 (pos 0))) }
-{
-    push_bytes(out, &mom[0].to_le_bytes())?;
-    push_bytes(out, &mom[1].to_le_bytes())?;
-    push_bytes(out, &mom[2].to_le_bytes())
-}
-
 // Appends a body.
 fn push_body(out: &mut Vec<u8>, body: &Body) -> Result<(), Memory>
     ensures { OnOk result (out.new.items ≡ out.old.items ++ body_bytes body.now) }
@@ -91,8 +72,8 @@ fn push_body(out: &mut Vec<u8>, body: &Body) -> Result<(), Memory>
     push_word64(out, body.id)?;
     push_word32(out, u32::from(body.kind))?;
     push_word32(out, body.mass)?;
-    push_position(out, body.motion.pos())?;
-    push_momentum(out, body.motion.mom())
+    push_three_words(out, body.motion.pos())?;
+    push_three_signed(out, body.motion.mom())
 }
 
 // Appends all bodies.

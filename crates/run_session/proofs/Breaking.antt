@@ -5,11 +5,10 @@ use Rattle.std.specs.List.{flat_map}
 use Rattle.std.proofs.lemmas.List.{append-nil}
 use Rattle.store_io.specs.Files.{Files}
 use Rattle.nbody_model.specs.declared.field.Event.{Event}
-use Rattle.nbody_model.specs.Passes.{PassesAll}
+use Rattle.nbody_model.specs.Passes.{PassesAll, Passes}
 use Rattle.nbody_model.specs.Evolve.{record_in, asked_in, bins_in}
 use Rattle.nbody_model.specs.Session.{SessionData, Written, records, asked, bins}
 use Rattle.nbody_model.specs.Texts.{kick_line, kick_text, bins_record, open_bins_text}
-use Rattle.step_engine.specs.Told.{Passes}
 use Rattle.run_session.specs.Own.{StandsPart, Own, OwnTexts, OpensPart, HasPart, IsOther, own_names, followed}
 use Rattle.run_session.specs.Outputs.{file_name, file_bytes, with_written, session_texts, end_mark, IsNext, IsBroken, LeavesPart}
 use Rattle.run_session.specs.RunEnds.{World}

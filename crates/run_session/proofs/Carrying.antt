@@ -3,7 +3,7 @@ use Rattle.std.proofs.Common.{◌≡◌, ℕ, Bool, List, Option, subst}
 use Rattle.nbody_model.specs.Tables.{Gravity}
 use Rattle.nbody_model.specs.Session.{SessionData}
 use Rattle.nbody_model.specs.States.{StateData}
-use Rattle.step_engine.specs.Told.{Passes}
+use Rattle.nbody_model.specs.Passes.{Passes}
 use Rattle.run_session.specs.declared.course.Course.{Course}
 use Rattle.run_session.specs.RunEnds.{World}
 use Rattle.run_session.specs.Stages.{Basis}

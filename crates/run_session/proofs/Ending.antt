@@ -5,13 +5,11 @@ use Rattle.std.specs.List.{AllByRecursion}
 use Rattle.std.proofs.lemmas.List.{append-nil}
 use Rattle.std.proofs.lemmas.Bool.{ltb-true}
 use Rattle.nbody_model.specs.Bodies.{total}
-use Rattle.nbody_model.specs.Passes.{PassesAll}
+use Rattle.nbody_model.specs.Passes.{PassesAll, Passes}
 use Rattle.nbody_model.specs.Evolve.{is_empty}
 use Rattle.nbody_model.specs.States.{StateData}
-use Rattle.nbody_model.specs.Session.{SessionData, End, Done, OutOfRange, asked, bins, records, is_running}
+use Rattle.nbody_model.specs.Session.{SessionData, End, Done, OutOfRange, asked, bins, records, is_running, tells}
 use Rattle.nbody_model.specs.Texts.{kick_text, trace_text, open_bins_text}
-use Rattle.model_laws.specs.Conserved.{tells}
-use Rattle.step_engine.specs.Told.{Passes}
 use Rattle.step_engine.specs.BaseSteps.{is_known}
 use Rattle.store_io.specs.Files.{Files}
 use Rattle.store_io.specs.Causes.{Rose}

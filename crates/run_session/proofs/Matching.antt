@@ -1,9 +1,8 @@
 -- Where a run stands after each of its parts.
 use Rattle.std.proofs.Common.{◌≡◌, true, List, [], ◌∷◌, ◌++◌, map, length, refl, ap, sym, ◌∙◌, subst, append_assoc}
-use Rattle.nbody_model.specs.Passes.{PassesAll}
+use Rattle.nbody_model.specs.Passes.{PassesAll, Passes}
 use Rattle.nbody_model.specs.States.{StateData}
 use Rattle.nbody_model.specs.Session.{SessionData, Written, Snapshot, Restart, raised64, with_snapshot, with_restart, asked, kept}
-use Rattle.step_engine.specs.Told.{Passes}
 use Rattle.run_session.specs.Own.{Stands}
 use Rattle.run_session.specs.Outputs.{file_name, with_written, session_texts}
 use Rattle.run_session.specs.RunEnds.{World}

@@ -19,7 +19,8 @@ use Rattle.step_engine.specs.declared.step_end.StepCount.{StepCount}
 use Rattle.step_engine.specs.declared.step_end.StepEnd.{StepEnd}
 use Rattle.step_engine.specs.declared.step_end.StepEnd.TheVariants as ends
 use Rattle.step_engine.specs.Taken.{Taken}
-use Rattle.step_engine.specs.Told.{Passes, AreForcesAmong}
+use Rattle.step_engine.specs.Told.{AreForcesAmong}
+use Rattle.nbody_model.specs.Passes.{Passes}
 use Rattle.step_engine.specs.Ends.{NoYes, LastYes, IsOutside}
 use Rattle.step_engine.specs.BaseSteps.{Seen, Reaches, Counts, Goes, Refuses, RestsAt, StepEnds, StepCause, AreKnown, is_known, whole_step}
 use Rattle.step_engine.specs.Resumed.{IsInside}

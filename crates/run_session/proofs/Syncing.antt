@@ -6,12 +6,11 @@ use Rattle.store_io.specs.Causes.{Rose}
 use Rattle.store_io.specs.Stops.{Asks, Counted}
 use Rattle.nbody_model.specs.States.{StateData}
 use Rattle.nbody_model.specs.Session.{Plan, SessionData, Done, Stopped, is_running, is_stop, is_due, is_kept, with_snapshot, with_restart, synchronised, asked}
-use Rattle.step_engine.specs.Told.{Passes}
+use Rattle.nbody_model.specs.Passes.{Passes, PassesAll}
 use Rattle.run_session.specs.RunEnds.{World}
 use Rattle.run_session.specs.Stages.{Basis, HasFiles, IsLeft, Matches, IsBrokenIn, GrowsTo, asks_at, kept_after, IsAnswer, IsLast, IsHalted, GoesOn, SyncEnds, SyncBreaks}
 use Rattle.run_session.specs.Own.{Stands}
 use Rattle.run_session.specs.Outputs.{session_texts, with_written}
-use Rattle.nbody_model.specs.Passes.{PassesAll}
 use Rattle.std.proofs.lemmas.Bool.Decides.{nat_tests}
 use Rattle.run_session.proofs.FirstParts.{first_all, first_more, grows_none, grows_on, restart_grows}
 

@@ -11,7 +11,8 @@ use Rattle.nbody_model.specs.States.{StateData}
 use Rattle.nbody_model.specs.Session.{Plan, SessionData, raised64, is_running}
 use Rattle.param_file.specs.Settings.{ParamsData, IsParams, setup_of}
 use Rattle.restart_files.specs.Stored.{IsKept}
-use Rattle.step_engine.specs.Told.{Passes, AreForcesAmong}
+use Rattle.step_engine.specs.Told.{AreForcesAmong}
+use Rattle.nbody_model.specs.Passes.{Passes}
 use Rattle.step_engine.specs.BaseSteps.{is_known}
 use Rattle.store_io.specs.Files.{Files, bytes_of}
 use Rattle.store_io.specs.Causes.{Call, Rose}

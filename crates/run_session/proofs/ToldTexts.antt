@@ -11,11 +11,11 @@ use Rattle.nbody_model.specs.declared.field.Event.{Event}
 use Rattle.nbody_model.specs.Bodies.{BodyData}
 use Rattle.nbody_model.specs.Tables.{Gravity}
 use Rattle.nbody_model.specs.Evolve.{Happening, record_in, records_of, asked_in, asked_of, bins_in, bins_of}
-use Rattle.nbody_model.specs.Passes.{PassesAll}
+use Rattle.nbody_model.specs.Passes.{PassesAll, Passes}
 use Rattle.nbody_model.specs.Session.{SessionData, records, asked, bins, with_trail}
 use Rattle.nbody_model.specs.Texts.{kick_line, kick_text, trace_block, trace_text, bins_record, open_bins_text}
 use Rattle.step_engine.specs.Taken.{Taken, TookForces, TookKick, TookRest, TookPart}
-use Rattle.step_engine.specs.Told.{Tells, TellAll, events_in, Passes, IsTold}
+use Rattle.step_engine.specs.Told.{Tells, TellAll, events_in, IsTold}
 use Rattle.step_engine.proofs.Changes.{forces_length}
 use Rattle.store_io.specs.Files.{Files}
 use Rattle.run_session.specs.Own.{Own, OwnTexts, HasPart, followed, first_texts, Stands, StandsPart}

@@ -7,7 +7,7 @@ use Rattle.store_io.specs.Causes.{Rose}
 use Rattle.nbody_model.specs.Evolve.{Happening, Progress, Refusal, rests_of, is_empty}
 use Rattle.nbody_model.specs.States.{StateData}
 use Rattle.nbody_model.specs.Session.{Plan, SessionData, End, Stopped, OutOfRange, Restart, raised64, asked, is_running, advanced, with_trail, with_restart, base_step, synchronised, session_from, is_done, is_stop}
-use Rattle.step_engine.specs.Told.{Passes}
+use Rattle.nbody_model.specs.Passes.{Passes}
 use Rattle.run_session.specs.Own.{OwnTexts, Stands, StandsPart, followed}
 use Rattle.run_session.specs.Outputs.{with_written, session_texts}
 use Rattle.run_session.specs.RunEnds.{World, IsAnsweredYes}

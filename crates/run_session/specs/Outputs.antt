@@ -5,12 +5,11 @@ use Rattle.std.specs.Str.{bytes_eq}
 use Rattle.store_io.specs.Files.{Files}
 use Rattle.nbody_model.specs.declared.field.Event.{Event}
 use Rattle.nbody_model.specs.Bodies.{BodyData}
-use Rattle.nbody_model.specs.Passes.{PassesAll}
+use Rattle.nbody_model.specs.Passes.{PassesAll, Passes}
 use Rattle.nbody_model.specs.Session.{SessionData, Written, records, asked, bins}
 use Rattle.nbody_model.specs.SessionFiles.{name_of, bytes_of}
 use Rattle.nbody_model.specs.Texts.{kick_text, trace_text, open_bins_text}
 use Rattle.param_file.specs.Settings.{ParamsData, setup_of}
-use Rattle.step_engine.specs.Told.{Passes}
 use Rattle.run_session.specs.Own.{Own, OwnTexts, Stands, OpensPart, HasPart, IsOther, followed, own_names}
 
 -- ---- files that are written one after another

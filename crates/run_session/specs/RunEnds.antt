@@ -4,19 +4,15 @@ use Rattle.std.specs.List.{AllByRecursion}
 use Rattle.store_io.specs.Files.{Files}
 use Rattle.store_io.specs.Causes.{Call, Rose}
 use Rattle.nbody_model.specs.declared.field.Event.{Event}
-use Rattle.nbody_model.specs.Bodies.{total}
+use Rattle.nbody_model.specs.Bodies.{total, components}
 use Rattle.nbody_model.specs.Setups.{SetupData}
 use Rattle.nbody_model.specs.Tables.{Gravity, ExpansionData}
-use Rattle.nbody_model.specs.Passes.{PassesAll}
+use Rattle.nbody_model.specs.Passes.{PassesAll, Passes}
 use Rattle.nbody_model.specs.Evolve.{MomRange as MomentumOut, StepRange as StepOut}
 use Rattle.nbody_model.specs.States.{StateData, IsStart}
-use Rattle.nbody_model.specs.Session.{Plan, SessionData, End, session, records, asked, OutOfRange}
-use Rattle.nbody_model.specs.Session.{Done as SessionDone, Stopped as SessionStopped}
-use Rattle.model_laws.specs.Conserved.{tells}
+use Rattle.nbody_model.specs.Session.{Plan, SessionData, End, session, records, asked, OutOfRange, Done as SessionDone, Stopped as SessionStopped, tells}
 use Rattle.param_file.specs.Settings.{ParamsData}
 use Rattle.restart_files.specs.Stored.{IsKept}
-use Rattle.step_engine.specs.Told.{Passes}
-use Rattle.step_engine.specs.Stands.{components}
 use Rattle.run_session.specs.declared.ended.End.{End as RunEnd}
 use Rattle.run_session.specs.declared.ended.End.TheVariants as ends
 use Rattle.run_session.specs.declared.ended.Ended.{Ended}

@@ -5,7 +5,7 @@ use Rattle.nbody_model.specs.States.{StateData, IsRest}
 use Rattle.nbody_model.specs.Session.{SessionData, OutOfRange}
 use Rattle.nbody_model.specs.Session.{Done as SessionDone}
 use Rattle.param_file.specs.Settings.{ParamsData, setup_of}
-use Rattle.step_engine.specs.Told.{Passes}
+use Rattle.nbody_model.specs.Passes.{Passes}
 use Rattle.run_session.specs.declared.ended.End.{End}
 use Rattle.run_session.specs.declared.ended.End.TheVariants as ends
 use Rattle.run_session.specs.declared.ended.Ended.{Ended}

@@ -8,13 +8,13 @@ use Rattle.nbody_model.specs.declared.field.Event.{Event}
 use Rattle.nbody_model.specs.Setups.{last_tick}
 use Rattle.nbody_model.specs.Tables.{Gravity, ExpansionData, Reaches}
 use Rattle.nbody_model.specs.Fields.{FieldData}
-use Rattle.nbody_model.specs.Passes.{PassesAll}
+use Rattle.nbody_model.specs.Passes.{PassesAll, Passes}
 use Rattle.nbody_model.specs.Evolve.{Happening, Progress, Refusal, Going, Refused, Resting, records_of, asked_of, bins_of, rests_of, is_empty}
 use Rattle.nbody_model.specs.States.{StateData}
 use Rattle.nbody_model.specs.Session.{Plan, SessionData, Written, End, Done, Stopped, asked, advanced, rested, base_step, with_restart, synchronised, session_from, is_done, is_running, is_stop}
 use Rattle.nbody_model.specs.Texts.{kick_text, trace_text, bins_record}
 use Rattle.param_file.specs.Settings.{ParamsData, setup_of}
-use Rattle.step_engine.specs.Told.{Passes, AreForcesAmong}
+use Rattle.step_engine.specs.Told.{AreForcesAmong}
 use Rattle.step_engine.specs.BaseSteps.{StandsFor}
 use Rattle.run_session.specs.Own.{Own, OwnTexts, Stands, HasPart, IsOther}
 use Rattle.run_session.specs.Changes.{AreThere}

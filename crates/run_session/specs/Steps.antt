@@ -9,7 +9,8 @@ use Rattle.nbody_model.specs.Session.{Plan, base_step, raised64, raised128}
 use Rattle.step_engine.specs.declared.step_end.StepCount.{StepCount}
 use Rattle.step_engine.specs.declared.step_end.StepEnd.{StepEnd}
 use Rattle.step_engine.specs.declared.step_end.StepEnd.TheVariants as ends
-use Rattle.step_engine.specs.Told.{Passes, AreForcesAmong}
+use Rattle.step_engine.specs.Told.{AreForcesAmong}
+use Rattle.nbody_model.specs.Passes.{Passes}
 use Rattle.step_engine.specs.Ends.{IsOutside}
 use Rattle.step_engine.specs.BaseSteps.{is_known, StepCause, StepEnds}
 use Rattle.step_engine.specs.Resumed.{IsInside}

@@ -4,7 +4,8 @@ use Rattle.nbody_model.specs.Session.{SessionData, OutOfRange}
 use Rattle.nbody_model.specs.States.{StateData}
 use Rattle.nbody_model.specs.Tables.{Gravity}
 use Rattle.param_file.specs.Settings.{ParamsData}
-use Rattle.step_engine.specs.Told.{Passes, AreForcesAmong}
+use Rattle.step_engine.specs.Told.{AreForcesAmong}
+use Rattle.nbody_model.specs.Passes.{Passes}
 use Rattle.step_engine.specs.BaseSteps.{is_known}
 use Rattle.run_session.specs.declared.course.Progress.{Progress as Run}
 use Rattle.store_io.specs.Files.{Files}

@@ -1,6 +1,6 @@
 // A whole run: its session, and the files that are kept open around it.
 ghost use Rattle.std.specs.Prelude.{Bool, ◌≡◌, ◌≤◌, ◌<◌, ◌*◌, ◌^◌, ℕ, ℤ, List, [], Option, Some, None, IfSome, IsTrue, false, true, not, IfOk, IfErr, OnOk, OnErr, option_copied};
-ghost use Rattle.nbody_model.specs.Bodies.{total};
+ghost use Rattle.nbody_model.specs.Bodies.{total, components};
 ghost use Rattle.nbody_model.specs.Setups.{last_tick};
 ghost use Rattle.nbody_model.specs.Tables.{Gravity, Reaches};
 ghost use Rattle.nbody_model.specs.Evolve.{is_empty};
@@ -8,7 +8,6 @@ ghost use Rattle.nbody_model.specs.Session.{SessionData, session};
 ghost use Rattle.model_laws.specs.Laws.{AreBodies};
 ghost use Rattle.param_file.specs.Settings.{IsParams, setup_of};
 ghost use Rattle.step_engine.specs.BaseSteps.{StandsFor, is_known};
-ghost use Rattle.step_engine.specs.Stands.{components};
 ghost use Rattle.run_session.specs.Causes.{FilesCause};
 ghost use Rattle.run_session.specs.Own.{AreApart, own_files};
 ghost use Rattle.run_session.specs.RunEnds.{IsBegun, RunEnds, World, plan_of};

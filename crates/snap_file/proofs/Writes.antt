@@ -12,12 +12,6 @@ use Rattle.snap_file.specs.declared.column.Column.{Column}
 use Rattle.snap_file.specs.declared.column.Column.TheVariants.{Positions, Momenta, Ids, Masses}
 use Rattle.snap_file.specs.Columns.{entry_of, width_of}
 
-pub three : (o a b c p q r : List ℕ) → p ≡ o ++ a → q ≡ p ++ b → r ≡ q ++ c → r ≡ o ++ (a ++ b ++ c)
-three o a b c p q r e f g = rw (g, f, e) (simp append_assoc)
-
-pub regroup : (o a b c : List ℕ) → ((o ++ a) ++ b) ++ c ≡ o ++ (a ++ b ++ c)
-regroup o a b c = simp append_assoc
-
 pub length-by_kind : (B : List BodyData) → length (by_kind B) ≡ length (of_kind B 1) + length (of_kind B 2) + length (of_kind B 3) + length (of_kind B 4) + length (of_kind B 5)
 unfolding by_kind
 length-by_kind B = simp length-append (omega arith)

@@ -1,9 +1,8 @@
 // The four columns of a snapshot, one entry for each body.
-ghost use Rattle.std.specs.Prelude.{◌≡◌, ◌≤◌, ◌*◌, ◌++◌, OnOk, slice_index, get_or, pos};
-ghost use Rattle.fixed_point.specs.Bytes.{bytes32, bytes64, signed_bytes64};
+ghost use Rattle.std.specs.Prelude.{◌≡◌, ◌≤◌, ◌*◌, ◌++◌, OnOk};
 ghost use Rattle.snap_file.specs.Columns.{entry_of, name_of, width_of};
 
-use fixed_point::Memory;
+use fixed_point::{Memory, push_three_signed, push_three_words, push_word32, push_word64};
 use nbody_model::Body;
 
 /// A column: what its block is called, and what an entry of it is.
@@ -48,49 +47,9 @@ pub(crate) fn push_entry(out: &mut Vec<u8>, column: Column, body: &Body) -> Resu
     ensures { OnOk result (out.new.items ≡ out.old.items ++ entry_of column body.now) }
 {
     match column {
-        Column::Positions => push_position(out, body.motion.pos()),
-        Column::Momenta => push_momentum(out, body.motion.mom()),
+        Column::Positions => push_three_words(out, body.motion.pos()),
+        Column::Momenta => push_three_signed(out, body.motion.mom()),
         Column::Ids => push_word64(out, body.id),
         Column::Masses => push_word32(out, body.mass),
     }
-}
-
-// Appends a number in four bytes, or in eight, the lowest byte first.
-pub(crate) fn push_word32(out: &mut Vec<u8>, n: u32) -> Result<(), Memory>
-    ensures { OnOk result (out.new.items ≡ out.old.items ++ bytes32 n) }
-{
-    out.extend_from_slice(&n.to_le_bytes())?;
-    Ok(())
-}
-
-pub(crate) fn push_word64(out: &mut Vec<u8>, n: u64) -> Result<(), Memory>
-    ensures { OnOk result (out.new.items ≡ out.old.items ++ bytes64 n) }
-{
-    out.extend_from_slice(&n.to_le_bytes())?;
-    Ok(())
-}
-
-fn push_bytes(out: &mut Vec<u8>, bytes: &[u8]) -> Result<(), Memory>
-    ensures { OnOk result (out.new.items ≡ out.old.items ++ bytes.now) }
-{
-    out.extend_from_slice(bytes)?;
-    Ok(())
-}
-
-fn push_position(out: &mut Vec<u8>, at: [u32; 3]) -> Result<(), Memory>
-    ensures { OnOk result (out.new.items ≡ out.old.items
-        ++ (bytes32 (slice_index at 0) ++ bytes32 (slice_index at 1) ++ bytes32 (slice_index at 2))) }
-{
-    push_word32(out, at[0])?;
-    push_word32(out, at[1])?;
-    push_word32(out, at[2])
-}
-
-fn push_momentum(out: &mut Vec<u8>, mom: [i64; 3]) -> Result<(), Memory>
-    ensures { OnOk result (out.new.items ≡ out.old.items
-        ++ signed_bytes64 (get_or mom 0 (pos 0)) ++ signed_bytes64 (get_or mom 1 (pos 0)) ++ signed_bytes64 (get_or mom 2 (pos 0))) }
-{
-    push_bytes(out, &mom[0].to_le_bytes())?;
-    push_bytes(out, &mom[1].to_le_bytes())?;
-    push_bytes(out, &mom[2].to_le_bytes())
 }

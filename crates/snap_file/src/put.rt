@@ -1,7 +1,7 @@
 // Writes snapshots to a store.
-ghost use Rattle.std.specs.Prelude.{◌≡◌, [], Option, Some, false, Bool, IsTrue, OnOk, OnErr};
-ghost use Rattle.store_io.specs.Causes.{HasCause, io_failed};
-ghost use Rattle.store_io.specs.Files.{ChangesOnly, AppendsPart};
+ghost use Rattle.std.specs.Prelude.{◌≡◌, false, OnOk, OnErr};
+ghost use Rattle.store_io.specs.Causes.{io_failed};
+ghost use Rattle.store_io.specs.Told.{Causes, IsEmpty, Puts, PutsPart};
 ghost use Rattle.nbody_model.specs.SnapshotText.{snapshot_text};
 
 use crate::write_snapshot;
@@ -18,15 +18,12 @@ pub fn put_snapshot<S: Store>(
     store: &mut S,
     name: &Text,
 ) -> Result<(), IoErr>
-    requires { IsTrue (S.tells store.old) → S.file store.old name.now ≡ Some [] }
+    requires { IsEmpty S.Store store.old name.now }
     ensures tells { S.tells store.new ≡ S.tells store.old }
     ensures closed { S.closed store.new ≡ S.closed store.old }
-    ensures ok { OnOk result (IsTrue (S.tells store.old)
-        → ChangesOnly (S.file store.old) (S.file store.new) name.now (Some (snapshot_text set.now tick number))) }
-    ensures err { OnErr result (IsTrue (S.tells store.old)
-        → AppendsPart (S.file store.old) (S.file store.new) name.now (snapshot_text set.now tick number)) }
-    ensures cause { HasCause (io_failed result) (name.now, false)
-        (S.faults store.old) (S.faults store.new) (S.last store.old) (S.last store.new) }
+    ensures ok { OnOk result (Puts S.Store store.old store.new name.now (snapshot_text set.now tick number)) }
+    ensures err { OnErr result (PutsPart S.Store store.old store.new name.now (snapshot_text set.now tick number)) }
+    ensures cause { Causes S.Store store.old store.new (io_failed result) (name.now, false) }
 {
     let text = write_snapshot(alloc, set, tick, number)?;
     append_pieces(store, name, &text)

@@ -5,8 +5,8 @@ ghost use Rattle.fixed_point.specs.Bytes.{framed};
 ghost use Rattle.nbody_model.specs.SnapshotText.{by_kind, column_text, counts_text, head_name, head_text, of_kind, snapshot_text};
 ghost use Rattle.snap_file.specs.Columns.{entry_of, name_of};
 
-use crate::column::{Column, push_entry, push_word32, push_word64};
-use fixed_point::Memory;
+use crate::column::{Column, push_entry};
+use fixed_point::{Memory, push_word32, push_word64};
 use nbody_model::Body;
 use particle_set::BodySet;
 use snapshot_blocks::{close_block, open_block};

@@ -12,10 +12,6 @@ four (a ∷ b ∷ c ∷ []) e = absurd (omega arith)
 four (a ∷ b ∷ c ∷ d ∷ []) e = refl
 four (a ∷ b ∷ c ∷ d ∷ x ∷ xs) e = absurd (omega arith)
 
-pub on_ok : {T E P Q : Type 0} (r : Result T E) → (P → Q) → OnOk r P → OnOk r Q
-on_ok (Ok x) f p = f p
-on_ok (Err e) f p = tt
-
 regroup : (old opened contents closed : List ℕ) → ((old ++ opened) ++ contents) ++ closed ≡ old ++ ((opened ++ contents) ++ closed)
 regroup old opened contents closed = simp append_assoc
 

@@ -2,7 +2,7 @@
 use Rattle.std.proofs.Common.{◌≡◌, ◌≤◌, ◌<◌, ℕ, ◌*◌, ◌^◌, ℤ, List, [], ◌∷◌, length, map, get_or, None, refl, ap, sym, ◌∙◌, subst, arith}
 use Rattle.std.specs.List.{AllByRecursion}
 use Rattle.std.proofs.lemmas.List.{length-map}
-use Rattle.nbody_model.specs.Bodies.{BodyData}
+use Rattle.nbody_model.specs.Bodies.{BodyData, components}
 use Rattle.nbody_model.specs.Setups.{SetupData}
 use Rattle.nbody_model.specs.Tables.{Gravity, Rules}
 use Rattle.nbody_model.specs.Steps.{change, kicked_bodies, drift}
@@ -13,7 +13,7 @@ use Rattle.model_laws.specs.Preserved.{IsPart}
 use Rattle.model_laws.specs.Conserved.{unmoved, IsConserved}
 use Rattle.model_laws.proofs.Still.{map-mapped}
 use Rattle.model_laws.proofs.Conserved.{drift_goes, kick_goes}
-use Rattle.step_engine.specs.Stands.{Now, IsReady, AreOf, components}
+use Rattle.step_engine.specs.Stands.{Now, IsReady, AreOf}
 use Rattle.step_engine.proofs.Leaves.{conserved_same}
 
 -- a kick of P, with a part F of it, keeps what steps keep

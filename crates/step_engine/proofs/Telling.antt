@@ -8,9 +8,9 @@ use Rattle.nbody_model.specs.Bodies.{BodyData}
 use Rattle.nbody_model.specs.Tables.{Gravity}
 use Rattle.nbody_model.specs.Fields.{FieldData}
 use Rattle.nbody_model.specs.Evolve.{Happening, Asked, asked_in, asked_of}
-use Rattle.nbody_model.specs.Passes.{PassesAll}
+use Rattle.nbody_model.specs.Passes.{PassesAll, Passes}
 use Rattle.step_engine.specs.Taken.{Taken, TookForces}
-use Rattle.step_engine.specs.Told.{AreForcesAmong, Tells, TellAll, events_in, Passes, IsTold}
+use Rattle.step_engine.specs.Told.{AreForcesAmong, Tells, TellAll, events_in, IsTold}
 
 tell_more : (g : Gravity) (entries : List Taken) (trail : List Happening) (entry : Taken) (what : Happening) → TellAll g entries trail → Tells g entry what → TellAll g (entries ++ entry ∷ []) (trail ++ what ∷ [])
 tell_more g [] [] entry what a t = (t, tt)

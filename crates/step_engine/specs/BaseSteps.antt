@@ -12,7 +12,8 @@ use Rattle.step_engine.specs.declared.step_end.StepCount.{StepCount}
 use Rattle.step_engine.specs.declared.step_end.StepEnd.{StepEnd}
 use Rattle.step_engine.specs.declared.step_end.StepEnd.TheVariants as ends
 use Rattle.step_engine.specs.Taken.{Taken, Tale, Adds}
-use Rattle.step_engine.specs.Told.{Passes, AreForcesAmong, IsTold}
+use Rattle.step_engine.specs.Told.{AreForcesAmong, IsTold}
+use Rattle.nbody_model.specs.Passes.{Passes}
 use Rattle.step_engine.specs.Ends.{NoYes, LastYes, trail_of, IsOutside}
 
 -- forces by a setup, and by a table that keeps its limits if there is one

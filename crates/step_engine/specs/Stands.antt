@@ -36,10 +36,6 @@ abbrev pub now : List BodyData → Gravity → List ℕ → List ℕ → ℕ →
 now B g fixed state faults yeses took w =
     record { bodies = B; gravity = g; fixed = fixed; state = state; faults = faults; yes = yeses; took = took; depth = w.depth.items; kicks = w.count.kicks; interactions = w.count.interactions }
 
--- the components of a vector
-abbrev pub components : V3 → List ℤ
-components v = v.x ∷ v.y ∷ v.z ∷ []
-
 -- a step may go on from here: forces stand for the setup, bodies keep their limits, the total is known, no depth is set
 pub record IsReady (s : SetupData) (sum : List ℤ) (N : Now) : Type 0 where
   pub setup : N.gravity.setup ≡ s

@@ -8,7 +8,7 @@ use Rattle.nbody_model.specs.Fields.{FieldData}
 use Rattle.nbody_model.specs.Covers.{opening_of, interactions}
 use Rattle.nbody_model.specs.Force.{forces}
 use Rattle.nbody_model.specs.Evolve.{Happening, Binned, Asked, Kicked, Rested, asked_of}
-use Rattle.nbody_model.specs.Passes.{PassesAll}
+use Rattle.nbody_model.specs.Passes.{Passes, PassesAll}
 use Rattle.step_engine.specs.Taken.{Taken, TookForces, TookKick, TookRest, TookPart}
 
 -- the forces among some bodies, and the number of their interactions
@@ -43,10 +43,6 @@ IsNoYes (TookRest tick answer) = answer ≡ false
 IsNoYes (TookForces f) = ⊤
 IsNoYes (TookKick entry) = ⊤
 IsNoYes (TookPart F) = ⊤
-
--- how the forces among some bodies may be found: from a state, by events, to a state
-abbrev pub Passes : Type 1
-Passes = List BodyData → List ℕ → List Event → List ℕ → Type 0
 
 -- the same, by a setup with a table and by further numbers
 abbrev pub Finder : Type 1

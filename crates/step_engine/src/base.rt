@@ -1,6 +1,6 @@
 // A base step of all bodies.
 ghost use Rattle.std.specs.Prelude.{◌≡◌, ◌≤◌, ◌+◌, ◌-◌, ◌^◌, not, [], ℕ, IfOk, IfSome, option_copied};
-ghost use Rattle.nbody_model.specs.Bodies.{only, total};
+ghost use Rattle.nbody_model.specs.Bodies.{only, total, components};
 ghost use Rattle.nbody_model.specs.Tables.{Reaches};
 ghost use Rattle.nbody_model.specs.Evolve.{Going, ask_if, evolve};
 ghost use Rattle.model_laws.specs.Conserved.{IsConserved};
@@ -9,7 +9,7 @@ ghost use Rattle.model_laws.specs.Laws.{AreBodies};
 ghost use Rattle.kick_drift.specs.Parts.{AreAscending, ids_at};
 ghost use Rattle.step_engine.specs.declared.work.Work.{Work};
 ghost use Rattle.step_engine.specs.Told.{AreForcesAmong};
-ghost use Rattle.step_engine.specs.Stands.{IsReady, IsTimely, components, now};
+ghost use Rattle.step_engine.specs.Stands.{IsReady, IsTimely, now};
 ghost use Rattle.step_engine.specs.Ends.{Makes};
 ghost use Rattle.step_engine.specs.Halts.{end_of};
 ghost use Rattle.step_engine.specs.Stages.{rules};

@@ -1,6 +1,7 @@
 use super::*;
 use fixed_point::Memory;
 use std::alloc::Global;
+use std::fs;
 use std::test::Fail;
 
 fn text(alloc: Global, bytes: &[u8]) -> Result<Text, Memory> {
@@ -184,6 +185,7 @@ fn real_files(rt: HostRuntime) -> Result<(), Fail> {
     assert_eq!(rt; store.read_at(&name, 3, &mut part), Err(IoErr::Failed));
     let folder = text(alloc, b".")?;
     assert_eq!(rt; store.length(&folder), Err(LenErr::Failed));
+    fs::remove_file(&rt, "tried_file")?;
     Ok(())
 }
 
@@ -195,6 +197,7 @@ fn a_real_stop(rt: HostRuntime) -> Result<(), Fail> {
     let mut store = FileStore::new(rt.clone()?);
     store.create(&name)?;
     assert!(rt; stop.asked());
+    fs::remove_file(&rt, "stop")?;
     Ok(())
 }
 

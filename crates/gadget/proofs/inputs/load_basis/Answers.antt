@@ -24,7 +24,7 @@ returns-in-Err-load_factors-clause-err g c =
     factors_refused (S.tells start) (S.tells one) (S.tells two) (S.tells three) (S.file start) (S.file one) (S.file two) (S.file three)
     (S.faults start) (S.faults one) (S.faults two) (S.faults three) (S.faults four) (S.last four)
     c.args.name.now c.in-Ok.params c.in-Ok-load_outputs.outputs.items c.in-Ok-load_corrections.table c.in-Err-load_factors.status
-    c.in-Ok.ensures.tells c.in-Ok-load_outputs.ensures.tells c.in-Ok-load_corrections.ensures.tells
-    c.in-Ok.ensures.files c.in-Ok-load_outputs.ensures.files c.in-Ok-load_corrections.ensures.files
+    c.in-Ok.ensures.tells c.in-Ok-load_outputs.ensures.tells c.in-Ok-load_corrections.ensures.keeps.tells
+    c.in-Ok.ensures.files c.in-Ok-load_outputs.ensures.files c.in-Ok-load_corrections.ensures.keeps.files
     c.in-Ok.ensures.quiet.0 c.in-Ok-load_outputs.ensures.quiet.0 c.in-Ok-load_corrections.ensures.quiet.0
     c.in-Ok.ensures.ok c.in-Ok.ensures.built c.in-Ok-load_outputs.ensures.ok c.in-Ok-load_corrections.ensures.ok c.in-Err-load_factors.ensures.err

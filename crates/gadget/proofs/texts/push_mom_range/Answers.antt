@@ -1,6 +1,6 @@
 use Rattle.std.proofs.Common.{codes}
 use Rattle.gadget.specs.Texts.{counted}
-use Rattle.gadget.proofs.Joins.{join_four}
+use Rattle.fixed_point.proofs.Joins.{join_four}
 use Rattle.gadget.proofs.texts.push_mom_range.Goals as goal
 
 pub returns : goal.returns

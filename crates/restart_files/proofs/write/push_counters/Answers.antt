@@ -1,4 +1,5 @@
-use Rattle.restart_files.proofs.Joins.{counted, on_ok}
+use Rattle.restart_files.proofs.Joins.{counted}
+use Rattle.fixed_point.proofs.Joins.{on_ok}
 use Rattle.restart_files.proofs.write.push_counters.Goals as goal
 
 pub returns : goal.returns

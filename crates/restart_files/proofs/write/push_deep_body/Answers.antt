@@ -2,7 +2,7 @@ use Rattle.std.proofs.Common.{◌≡◌, ◌++◌, get_or, slice_index, sym, ap,
 use Rattle.std.proofs.lemmas.Option.{get_or_from_slice_get}
 use Rattle.fixed_point.specs.Bytes.{bytes32}
 use Rattle.nbody_model.specs.RestartText.{body_bytes}
-use Rattle.restart_files.proofs.Joins.{on_ok, two}
+use Rattle.fixed_point.proofs.Joins.{on_ok, two}
 use Rattle.restart_files.proofs.write.push_deep_body.Goals as goal
 
 pub returns : goal.returns

@@ -3,7 +3,8 @@ use Rattle.std.specs.List.{flat_map}
 use Rattle.fixed_point.specs.Bytes.{bytes32, bytes64, bytes128}
 use Rattle.nbody_model.specs.RestartText.{setup_numbers}
 use Rattle.restart_files.specs.Texts.{counters_text}
-use Rattle.restart_files.proofs.Joins.{headed, on_ok}
+use Rattle.restart_files.proofs.Joins.{headed}
+use Rattle.fixed_point.proofs.Joins.{on_ok}
 use Rattle.restart_files.proofs.write.push_head.Goals as goal
 
 pub returns : goal.returns

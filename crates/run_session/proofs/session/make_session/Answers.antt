@@ -2,7 +2,7 @@ use Rattle.std.proofs.Common.{◌≡◌, ◌≤◌, ℕ, Bool, IsTrue, Option, E
 use Rattle.nbody_model.specs.States.{StateData}
 use Rattle.nbody_model.specs.Session.{SessionData, session}
 use Rattle.param_file.specs.Settings.{ParamsData}
-use Rattle.step_engine.specs.Told.{Passes}
+use Rattle.nbody_model.specs.Passes.{Passes}
 use Rattle.store_io.specs.Causes.{Rose}
 use Rattle.run_session.specs.declared.failure.Failure.{Failure}
 use Rattle.run_session.specs.declared.failure.Failure.TheVariants as failures

@@ -3,7 +3,8 @@ use Rattle.std.specs.Prelude.{IfSome}
 use Rattle.nbody_model.specs.Tables.{Gravity}
 use Rattle.nbody_model.specs.Session.{SessionData}
 use Rattle.nbody_model.specs.States.{StateData}
-use Rattle.step_engine.specs.Told.{Passes, AreForcesAmong}
+use Rattle.step_engine.specs.Told.{AreForcesAmong}
+use Rattle.nbody_model.specs.Passes.{Passes}
 use Rattle.step_engine.specs.BaseSteps.{is_known}
 use Rattle.run_session.specs.declared.course.Course.{Course}
 use Rattle.run_session.specs.declared.turn.Turn.{Turn}

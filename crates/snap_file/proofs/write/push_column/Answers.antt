@@ -1,6 +1,7 @@
 use Rattle.std.proofs.Common.{◌≡◌, ◌*◌, ◌∙◌, length, sym, ap}
 use Rattle.std.specs.List.{flat_map}
-use Rattle.snapshot_blocks.proofs.Pushes.{on_ok, joined}
+use Rattle.snapshot_blocks.proofs.Pushes.{joined}
+use Rattle.fixed_point.proofs.Joins.{on_ok}
 use Rattle.nbody_model.specs.SnapshotText.{by_kind, column_text}
 use Rattle.snap_file.specs.Columns.{entry_of, name_of, width_of}
 use Rattle.snap_file.proofs.Writes.{length-entries}

@@ -1,4 +1,4 @@
-use Rattle.snapshot_blocks.proofs.Pushes.{on_ok}
+use Rattle.fixed_point.proofs.Joins.{on_ok}
 use Rattle.snap_file.proofs.Writes.{counted}
 use Rattle.snap_file.proofs.write.push_counts.Goals as goal
 

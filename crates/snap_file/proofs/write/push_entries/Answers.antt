@@ -1,4 +1,4 @@
-use Rattle.snapshot_blocks.proofs.Pushes.{on_ok}
+use Rattle.fixed_point.proofs.Joins.{on_ok}
 use Rattle.snap_file.specs.Columns.{entry_of}
 use Rattle.snap_file.proofs.Writes.{entries}
 use Rattle.snap_file.proofs.write.push_entries.Goals as goal

@@ -1,4 +1,5 @@
-use Rattle.snapshot_blocks.proofs.Pushes.{on_ok, joined}
+use Rattle.snapshot_blocks.proofs.Pushes.{joined}
+use Rattle.fixed_point.proofs.Joins.{on_ok}
 use Rattle.snapshot_blocks.proofs.push.push_parts.Goals as goal
 
 pub returns-clause-ok : goal.returns-clause-ok

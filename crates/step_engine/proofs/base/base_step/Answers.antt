@@ -14,7 +14,7 @@ use Rattle.step_engine.specs.declared.step_end.StepCount.{StepCount}
 use Rattle.step_engine.specs.declared.step_end.StepEnd.{StepEnd}
 use Rattle.step_engine.specs.declared.step_end.StepEnd.TheVariants as ends
 use Rattle.step_engine.specs.Halts.{end_of}
-use Rattle.step_engine.specs.Told.{Passes}
+use Rattle.nbody_model.specs.Passes.{Passes}
 use Rattle.step_engine.specs.Stands.{Now, now}
 use Rattle.step_engine.specs.Stages.{rules}
 use Rattle.step_engine.specs.BaseSteps.{Seen, StepEnds, is_known, whole_step}

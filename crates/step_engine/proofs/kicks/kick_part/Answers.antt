@@ -1,6 +1,6 @@
 use Rattle.std.proofs.Common.{◌≡◌, ℕ, ℤ, List, [], length, map, Some, None, Err, refl, ap, sym, ◌∙◌, subst, arith, option_copied}
 use Rattle.nbody_model.specs.declared.kicks.Record.{Record}
-use Rattle.nbody_model.specs.Bodies.{BodyData, only, total}
+use Rattle.nbody_model.specs.Bodies.{BodyData, only, total, components}
 use Rattle.nbody_model.specs.Setups.{SetupData, IsSetup}
 use Rattle.nbody_model.specs.Tables.{Gravity, Rules}
 use Rattle.nbody_model.specs.Fields.{FieldData}
@@ -14,7 +14,7 @@ use Rattle.model_laws.specs.Conserved.{IsConserved}
 use Rattle.model_laws.specs.Still.{still, SamePlaces}
 use Rattle.model_laws.proofs.Still.{kicks_move_nothing}
 use Rattle.step_engine.specs.Told.{Finder, AreForcesAmong}
-use Rattle.step_engine.specs.Stands.{now, Now, IsReady, out_after, IsRefusedBy, components}
+use Rattle.step_engine.specs.Stands.{now, Now, IsReady, out_after, IsRefusedBy}
 use Rattle.step_engine.specs.Halts.{refusal_of}
 use Rattle.step_engine.specs.Ends.{Makes}
 use Rattle.step_engine.proofs.Picks.{length_only_at}
