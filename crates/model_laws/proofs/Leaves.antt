@@ -35,7 +35,7 @@ all_from : (t : Position → Bool) (xs : List Position) → ((x : Position) → 
 all_from t [] h = refl
 all_from t (x ∷ xs) h = and_from (t x) (list_all t xs) (h x (inl refl)) (all_from t xs (λ y k. h y (inr k)))
 
-one_place-from : (xs : List Position) → ((p q : Position) → Among p xs → Among q xs → same_place p q ≡ true) → at_one_place xs ≡ true
+pub one_place-from : (xs : List Position) → ((p q : Position) → Among p xs → Among q xs → same_place p q ≡ true) → at_one_place xs ≡ true
 one_place-from [] h = refl
 one_place-from (x ∷ xs) h = all_from (same_place x) xs (λ y k. h x y (inl refl) (inr k))
 

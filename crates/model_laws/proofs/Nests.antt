@@ -95,7 +95,7 @@ less_none P F Fs pre part h id e = cases (has F id)
     (λ f. absurd (false≢true (sym e ∙ part id f)))
     (λ f. let g : one_if (has F id) ≡ 0 = ap one_if f in omega (arith, h id f, g))
 
-tells : (s : SetupData) (P : List ℕ) (σ : StateData) (c : ℕ) (Fs : List (List ℕ)) (d pre : ℕ → ℕ) → σ.depths ≡ map (λ b. d b.id) σ.bodies → P ≡ ids_of σ.bodies → Nested (ids_of σ.bodies) P Fs →
+pub tells : (s : SetupData) (P : List ℕ) (σ : StateData) (c : ℕ) (Fs : List (List ℕ)) (d pre : ℕ → ℕ) → σ.depths ≡ map (λ b. d b.id) σ.bodies → P ≡ ids_of σ.bodies → Nested (ids_of σ.bodies) P Fs →
     ((id : ℕ) → d id ≡ pre id + held Fs id) → ((id : ℕ) → has (head_or P Fs) id ≡ false → pre id ≡ 0) → c + length Fs ≡ s.top_bin + 1 → Tells s σ P c Fs
 tells s P σ c [] d pre e p n f h g = tt
 tells s P σ c (F ∷ Fs) d pre e p n f h g =
@@ -167,18 +167,18 @@ Nests ids P (Resting p tick Fs) = Nested ids P Fs
 abbrev pub stay : List ℕ → Progress → Type 0
 stay ids p = ids_of p.bodies ≡ ids
 
-ids_step : (f : BodyData → BodyData) → ((b : BodyData) → (f b).id ≡ b.id) → (b : BodyData) (t : Bool) → (cond t (f b) b).id ≡ b.id
+pub ids_step : (f : BodyData → BodyData) → ((b : BodyData) → (f b).id ≡ b.id) → (b : BodyData) (t : Bool) → (cond t (f b) b).id ≡ b.id
 ids_step f e b true = e b
 ids_step f e b false = refl
 
-ids_same : (f : BodyData → BodyData) → ((b : BodyData) → (f b).id ≡ b.id) → (P : List ℕ) (B : List BodyData) → ids_of (at_each P f B) ≡ ids_of B
+pub ids_same : (f : BodyData → BodyData) → ((b : BodyData) → (f b).id ≡ b.id) → (P : List ℕ) (B : List BodyData) → ids_of (at_each P f B) ≡ ids_of B
 ids_same f e P B = map-mapped (λ b. b.id) (λ b. cond (has P b.id) (f b) b) B ∙ map-same (λ b. (cond (has P b.id) (f b) b).id) (λ b. b.id) (λ b. ids_step f e b (has P b.id)) B
 
 out_stays : (ids : List ℕ) (p q : Progress) (bin tick : ℕ) (out : Option (ℕ × ℕ)) → stay ids p → stay ids q → Holds (stay ids) (elim out [ Some first ↦ Refused p (MomRange tick bin first.0 first.1) | None ↦ Going q ])
 out_stays ids p q bin tick None h g = g
 out_stays ids p q bin tick (Some first) h g = h
 
-stays : (r : Rules) (ids : List ℕ) → IsPreserved r (stay ids)
+pub stays : (r : Rules) (ids : List ℕ) → IsPreserved r (stay ids)
 unfolding kick
 stays r ids = record {
   binned = λ F p h. h;
@@ -192,12 +192,12 @@ stays r ids = record {
       (ids_same (λ b. record b { motion = record { pos = b.motion.pos; mom = kicked_by k b.motion.mom (v b) } }) (λ b. refl) P p.bodies ∙ h);
 }
 
-moves_nest : (ids P : List ℕ) (s : Stepped) → Moves s → Nests ids P s
+pub moves_nest : (ids P : List ℕ) (s : Stepped) → Moves s → Nests ids P s
 moves_nest ids P (Going p) m = tt
 moves_nest ids P (Refused p e) m = tt
 moves_nest ids P (Resting p tick Fs) m = absurd m
 
-bind_nests : (ids P : List ℕ) (s : Stepped) (f : Progress → Stepped) → Nests ids P s → Holds (stay ids) s → ((q : Progress) → stay ids q → Nests ids P (f q)) → Nests ids P (s >>= f)
+pub bind_nests : (ids P : List ℕ) (s : Stepped) (f : Progress → Stepped) → Nests ids P s → Holds (stay ids) s → ((q : Progress) → stay ids q → Nests ids P (f q)) → Nests ids P (s >>= f)
 bind_nests ids P (Going p) f n h g = g p h
 bind_nests ids P (Refused p e) f n h g = tt
 bind_nests ids P (Resting p tick Fs) f n h g = n
@@ -211,11 +211,11 @@ inside_nests ids P F (Going p) whole part n = tt
 inside_nests ids P F (Refused p e) whole part n = tt
 inside_nests ids P F (Resting p tick Fs) whole part n = nested_more ids P F Fs whole part n
 
-cond_nests : (ids P : List ℕ) (b : Bool) (s t : Stepped) → Nests ids P s → Nests ids P t → Nests ids P (cond b s t)
+pub cond_nests : (ids P : List ℕ) (b : Bool) (s t : Stepped) → Nests ids P s → Nests ids P t → Nests ids P (cond b s t)
 cond_nests ids P true s t n m = n
 cond_nests ids P false s t n m = m
 
-rest_nests : (ids P : List ℕ) (stop : Option ℕ) (tick : ℕ) (p : Progress) → Nests ids P (rest stop tick p)
+pub rest_nests : (ids P : List ℕ) (stop : Option ℕ) (tick : ℕ) (p : Progress) → Nests ids P (rest stop tick p)
 rest_nests ids P None tick p = tt
 rest_nests ids P (Some s) tick p = cond_nests ids P (s == tick) (Resting (tell (Rested tick) p) tick []) (Going (tell (Rested tick) p)) tt tt
 
@@ -278,7 +278,7 @@ round_rest r σ bin P F e f p =
     (λ i. cond (nat_le σ.tick middle) (inside_moves (fast_parts s σ bin) finer moves i) (Going p) >>= (λ q. close r bin (unfinished s σ bin) G t q)) ∙
     (λ i. rest_of_step r σ.tick bin (f i) (e i) p)
 
-fold_rests : (r : Rules) (σ : StateData) (P : List ℕ) (c : ℕ) (Fs : List (List ℕ)) → Tells r.gravity.setup σ P c Fs → (s : Stepped) →
+pub fold_rests : (r : Rules) (σ : StateData) (P : List ℕ) (c : ℕ) (Fs : List (List ℕ)) → Tells r.gravity.setup σ P c Fs → (s : Stepped) →
     fold (λ step bin. step >>= (λ q. round r None σ bin q)) s (range_with_len c (length Fs)) ≡ rest_of_steps r σ.tick P c Fs s
 fold_rests r σ P c [] n s = refl
 fold_rests r σ P c (F ∷ Fs) n s =

@@ -24,7 +24,7 @@ use Rattle.model_laws.proofs.Cancel.{CoverOf, interaction-cover}
 
 -- ---- exactly one interaction parts two bodies
 
-abbrev one_if : Bool → ℕ
+abbrev pub one_if : Bool → ℕ
 one_if b = cond b 1 0
 
 either_even : (a b c d : Bool) → ((a && b) || (c && d)) ≡ ((d && c) || (b && a))

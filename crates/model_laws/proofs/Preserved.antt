@@ -18,12 +18,12 @@ bound I (Going p) f h g = g p h
 bound I (Refused p e) f h g = h
 bound I (Resting p tick Fs) f h g = h
 
-within : (I : Progress → Type 0) (Gs : List (List ℕ)) (s : Stepped) → Holds I s → Holds I (inside Gs s)
+pub within : (I : Progress → Type 0) (Gs : List (List ℕ)) (s : Stepped) → Holds I s → Holds I (inside Gs s)
 within I Gs (Going p) h = h
 within I Gs (Refused p e) h = h
 within I Gs (Resting p tick Fs) h = h
 
-either : (I : Progress → Type 0) (b : Bool) (s t : Stepped) → Holds I s → Holds I t → Holds I (cond b s t)
+pub either : (I : Progress → Type 0) (b : Bool) (s t : Stepped) → Holds I s → Holds I t → Holds I (cond b s t)
 either I true s t h g = h
 either I false s t h g = g
 

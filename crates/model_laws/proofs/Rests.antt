@@ -15,7 +15,7 @@ use Rattle.model_laws.specs.Rests.{rest_of_step, head_or, rest_of_steps, Agrees,
 
 -- ---- steps in a row
 
-bind_assoc : (s : Stepped) (f g : Progress → Stepped) → (s >>= f) >>= g ≡ s >>= (λ q. f q >>= g)
+pub bind_assoc : (s : Stepped) (f g : Progress → Stepped) → (s >>= f) >>= g ≡ s >>= (λ q. f q >>= g)
 bind_assoc (Going p) f g = refl
 bind_assoc (Refused p e) f g = refl
 bind_assoc (Resting p tick Fs) f g = refl
@@ -36,7 +36,7 @@ inside_moves Gs (Going p) m = refl
 inside_moves Gs (Refused p e) m = refl
 inside_moves Gs (Resting p tick Fs) m = absurd m
 
-moved : (Gs : List (List ℕ)) (s : Stepped) → Moves s → Moves (inside Gs s)
+pub moved : (Gs : List (List ℕ)) (s : Stepped) → Moves s → Moves (inside Gs s)
 moved Gs (Going p) m = m
 moved Gs (Refused p e) m = m
 moved Gs (Resting p tick Fs) m = m
@@ -113,7 +113,7 @@ rest_more r u P F bin (G ∷ Fs) s =
 
 -- ---- ticks
 
-doubled : (n c : ℕ) → n * 2 ^ (c + 1) ≡ 2 * n * 2 ^ c
+pub doubled : (n c : ℕ) → n * 2 ^ (c + 1) ≡ 2 * n * 2 ^ c
 doubled n c =
     let e : 2 ^ (c + 1) ≡ 2 ^ c * 2 = ap (λ k. 2 ^ k) (add-one c) ∙ pow-suc 2 c in
     let f = ap (λ y. n * y) e in
@@ -130,7 +130,7 @@ low_of (suc k) (suc c) x h =
     let half : (2 * x + 1) * 2 ^ suc c / 2 ≡ m = ap (λ y. y / 2) e ∙ omega arith in
     ap (λ d. under d (count_trailing_zeros k ((2 * x + 1) * 2 ^ suc c / 2))) even ∙ ap suc (ap (count_trailing_zeros k) half ∙ low_of k c x (le_of_suc-le-suc h))
 
-less_one : (c : ℕ) → c + 1 - 1 ≡ c
+pub less_one : (c : ℕ) → c + 1 - 1 ≡ c
 less_one c = omega arith
 
 counted : (v k c : ℕ) → v + k ≡ c → c + 1 ≡ v + 1 + k
@@ -143,29 +143,29 @@ quotient bin n u low high =
     let down = (le-div_iff_mul-le {k = 2 ^ bin} (pow_pos bin)).1 low in
     omega (arith, up, down)
 
-half_of : (c : ℕ) → 2 ^ (c + 1 - 1) ≡ 2 ^ c
+pub half_of : (c : ℕ) → 2 ^ (c + 1 - 1) ≡ 2 ^ c
 half_of c = ap (λ k. 2 ^ k) (omega arith)
 
 -- the evolve of a bin that holds a tick began at the multiple below it
-began_at : (bin n u : ℕ) → n * 2 ^ bin ≤ u → u < (n + 1) * 2 ^ bin → began bin u ≡ n * 2 ^ bin
+pub began_at : (bin n u : ℕ) → n * 2 ^ bin ≤ u → u < (n + 1) * 2 ^ bin → began bin u ≡ n * 2 ^ bin
 began_at bin n u low high = ap (λ k. k * 2 ^ bin) (quotient bin n u low high)
 
 -- ---- what the rest of an evolve is, by where the resting point lies in it
 
 -- the rest of a step of bin c + 1 that began at t
-abbrev shape : Rules → ℕ → List ℕ → List ℕ → ℕ → Bool → Bool → Progress → Stepped
+abbrev pub shape : Rules → ℕ → List ℕ → List ℕ → ℕ → Bool → Bool → Progress → Stepped
 shape r c P F t own early p =
     cond early (cond own (Going p) (rest None (t + 2 ^ (c + 1 - 1)) p) >>= (λ q. evolve r None (c + 1 - 1) F (t + 2 ^ (c + 1 - 1)) q)) (Going p) >>=
     (λ q. close r (c + 1) P F t q)
 
-shaped : (r : Rules) (u c : ℕ) (P F : List ℕ) (t : ℕ) (own early : Bool) → began (c + 1) u ≡ t → (c + 1 == low_zeros u + 1) ≡ own → nat_le u (t + 2 ^ (c + 1 - 1)) ≡ early →
+pub shaped : (r : Rules) (u c : ℕ) (P F : List ℕ) (t : ℕ) (own early : Bool) → began (c + 1) u ≡ t → (c + 1 == low_zeros u + 1) ≡ own → nat_le u (t + 2 ^ (c + 1 - 1)) ≡ early →
     (p : Progress) → rest_of_step r u (c + 1) P F p ≡ shape r c P F t own early p
 shaped r u c P F t own early e f g p =
     (λ i. shape r c P F (e i) (c + 1 == low_zeros u + 1) (nat_le u (e i + 2 ^ (c + 1 - 1))) p) ∙
     (λ i. shape r c P F t (f i) (g i) p)
 
 -- at its own resting point the second finer step is left
-rest_own : (r : Rules) (u c : ℕ) (P F : List ℕ) (t : ℕ) → began (c + 1) u ≡ t → c ≡ low_zeros u → u ≡ t + 2 ^ (c + 1 - 1) →
+pub rest_own : (r : Rules) (u c : ℕ) (P F : List ℕ) (t : ℕ) → began (c + 1) u ≡ t → c ≡ low_zeros u → u ≡ t + 2 ^ (c + 1 - 1) →
     (p : Progress) → rest_of_step r u (c + 1) P F p ≡ evolve r None c F (t + 2 ^ (c + 1 - 1)) p >>= (λ q. close r (c + 1) P F t q)
 rest_own r u c P F t e f g p =
     shaped r u c P F t true true e (eq-eqb (c + 1) (low_zeros u + 1) (ap (λ k. k + 1) f)) (le-leb u (t + 2 ^ (c + 1 - 1)) (omega (arith, g))) p ∙
@@ -179,7 +179,7 @@ rest_early r u c P F t e f g p =
     (λ i. (rest None (t + 2 ^ (c + 1 - 1)) p >>= (λ q. evolve r None (less_one c i) F (t + 2 ^ (c + 1 - 1)) q)) >>= (λ q. close r (c + 1) P F t q))
 
 -- in the second finer step nothing of it is left but the end
-rest_late : (r : Rules) (u c : ℕ) (P F : List ℕ) (t : ℕ) → began (c + 1) u ≡ t → t + 2 ^ (c + 1 - 1) < u →
+pub rest_late : (r : Rules) (u c : ℕ) (P F : List ℕ) (t : ℕ) → began (c + 1) u ≡ t → t + 2 ^ (c + 1 - 1) < u →
     (p : Progress) → rest_of_step r u (c + 1) P F p ≡ close r (c + 1) P F t p
 rest_late r u c P F t e g p =
     shaped r u c P F t (c + 1 == low_zeros u + 1) false e refl (lt-leb u (t + 2 ^ (c + 1 - 1)) g) p

@@ -20,7 +20,7 @@ use Rattle.nbody_model.specs.Session.{Plan, Written, Snapshot, Restart, SessionD
 use Rattle.model_laws.specs.Preserved.{Holds}
 use Rattle.model_laws.specs.Rests.{Agrees}
 use Rattle.model_laws.specs.Nests.{led, led_step, ids_of, Nested, rest_state, IsFinished}
-use Rattle.model_laws.specs.Resumed.{Shown, shown_in, snapshots_of, plain, Ends, GoesOn, IsOneOf, SessionsGoOn}
+use Rattle.model_laws.specs.Resumed.{Shown, shown_in, snapshots_of, plain, SameTimes, Ends, GoesOn, IsOneOf, SessionsGoOn}
 use Rattle.model_laws.proofs.Led.{evolve_led}
 use Rattle.model_laws.proofs.Rests.{Moves, bind_moves, cond_moves, kick_moves, close_moves, evolve_moves, evolve_agrees}
 use Rattle.model_laws.proofs.Nests.{Nests, stay, evolve_known, finishes}
@@ -49,7 +49,7 @@ snapshot_beside w k false false d e q h = h
 snapshot_beside w k true false d e q h = absurd (true≢false q)
 snapshot_beside w k false true d e q h = absurd (false≢true q)
 
-unshown : (ws : List Written) (n : ℕ) (σ : StateData) → snapshots_of (ws ++ Restart n σ ∷ []) ≡ snapshots_of ws
+pub unshown : (ws : List Written) (n : ℕ) (σ : StateData) → snapshots_of (ws ++ Restart n σ ∷ []) ≡ snapshots_of ws
 unshown ws n σ = flat_map-append shown_in ws (Restart n σ ∷ []) ∙ append-nil (snapshots_of ws)
 
 restart_left : (w : List Shown) (k : List Record) (b : Bool) (d e : SessionData) → Beside w k d e → Beside w k (with_restart b d) e
@@ -88,37 +88,31 @@ sync_beside plan before stop w k d e h =
     let two : Beside w k (with_restart kd td) (with_restart ke te) = restart_left w k kd td (with_restart ke te) (restart_right w k ke td te one) in
     record { same = two.same; snapshots = two.snapshots; kicks = two.kicks }
 
-no_stop : (b : Bool) → (cond (b && false) Stopped Done) ≡ Done
+pub no_stop : (b : Bool) → (cond (b && false) Stopped Done) ≡ Done
 no_stop true = refl
 no_stop false = refl
 
-sync_done : (plan : Plan) (before : Option ℕ) (d : SessionData) → (synchronised plan None before d).end ≡ Done
+pub sync_done : (plan : Plan) (before : Option ℕ) (d : SessionData) → (synchronised plan None before d).end ≡ Done
 unfolding synchronised
 sync_done plan before d = no_stop (elim before [ None ↦ false | Some w ↦ is_running plan d.state ])
 
 -- a synchronisation keeps the times
-record SameTimes (σ τ : StateData) : Type 0 where
-  depths : σ.depths ≡ τ.depths
-  steps : σ.steps ≡ τ.steps
-  tick : σ.tick ≡ τ.tick
-  bodies : σ.bodies ≡ τ.bodies
-
-snapshot_times : (b : Bool) (d : SessionData) → SameTimes (with_snapshot b d).state d.state
+pub snapshot_times : (b : Bool) (d : SessionData) → SameTimes (with_snapshot b d).state d.state
 snapshot_times true d = record { depths = refl; steps = refl; tick = refl; bodies = refl }
 snapshot_times false d = record { depths = refl; steps = refl; tick = refl; bodies = refl }
 
-restart_times : (b : Bool) (d : SessionData) → SameTimes (with_restart b d).state d.state
+pub restart_times : (b : Bool) (d : SessionData) → SameTimes (with_restart b d).state d.state
 restart_times true d = record { depths = refl; steps = refl; tick = refl; bodies = refl }
 restart_times false d = record { depths = refl; steps = refl; tick = refl; bodies = refl }
 
-asked_times : (b : Bool) (tick : ℕ) (d : SessionData) → SameTimes (cond b (record d { questions = d.questions ++ tick ∷ [] }) d).state d.state
+pub asked_times : (b : Bool) (tick : ℕ) (d : SessionData) → SameTimes (cond b (record d { questions = d.questions ++ tick ∷ [] }) d).state d.state
 asked_times true tick d = record { depths = refl; steps = refl; tick = refl; bodies = refl }
 asked_times false tick d = record { depths = refl; steps = refl; tick = refl; bodies = refl }
 
-both_times : (ρ σ τ : StateData) → SameTimes ρ σ → SameTimes σ τ → SameTimes ρ τ
+pub both_times : (ρ σ τ : StateData) → SameTimes ρ σ → SameTimes σ τ → SameTimes ρ τ
 both_times ρ σ τ a b = record { depths = a.depths ∙ b.depths; steps = a.steps ∙ b.steps; tick = a.tick ∙ b.tick; bodies = a.bodies ∙ b.bodies }
 
-sync_times : (plan : Plan) (stop before : Option ℕ) (d : SessionData) → SameTimes (synchronised plan stop before d).state d.state
+pub sync_times : (plan : Plan) (stop before : Option ℕ) (d : SessionData) → SameTimes (synchronised plan stop before d).state d.state
 unfolding synchronised
 sync_times plan stop before d =
     let asks : Bool = elim before [ None ↦ false | Some w ↦ is_running plan d.state ] in
@@ -131,7 +125,7 @@ sync_times plan stop before d =
 -- ---- base steps side by side
 
 -- what a session makes of a base step's end
-abbrev onward : ℕ → Plan → Option ℕ → SessionData → Stepped → SessionData
+abbrev pub onward : ℕ → Plan → Option ℕ → SessionData → Stepped → SessionData
 onward n plan stop d s = elim s [
   | Going p ↦ let e = synchronised plan stop (Some (d.state.steps * 2 ^ plan.rules.gravity.setup.top_bin)) (record (with_trail p.trail d) { state = advanced plan p d.state }) in cond (is_done e.end) (session_from n plan stop true e) e
   | Refused p x ↦ record (with_trail p.trail d) { end = OutOfRange x }
@@ -139,12 +133,12 @@ onward n plan stop d s = elim s [
 ]
 
 -- after a base step the session is at a synchronisation
-record IsTimed (plan : Plan) (σ : StateData) : Type 0 where
-  depths : σ.depths ≡ []
-  tick : σ.tick ≡ σ.steps * 2 ^ plan.rules.gravity.setup.top_bin
+pub record IsTimed (plan : Plan) (σ : StateData) : Type 0 where
+  pub depths : σ.depths ≡ []
+  pub tick : σ.tick ≡ σ.steps * 2 ^ plan.rules.gravity.setup.top_bin
 
 -- n further base steps are enough
-abbrev Enough : Plan → ℕ → StateData → Type 0
+abbrev pub Enough : Plan → ℕ → StateData → Type 0
 Enough plan n σ = plan.rules.gravity.setup.time_max ≤ σ.tick + n
 
 -- what is left to show for the synchronisation that follows
@@ -157,10 +151,10 @@ told_both k a b c d t h =
     ap records_of (sym (append_assoc c a t)) ∙ flat_map-append record_in (c ++ a) t ∙ ap (λ zs. zs ++ records_of t) h ∙
     append_assoc k (records_of (d ++ b)) (records_of t) ∙ ap (λ zs. k ++ zs) (sym (flat_map-append record_in (d ++ b) t) ∙ ap records_of (append_assoc d b t))
 
-done_on : (n : ℕ) (plan : Plan) (stop : Option ℕ) (e : SessionData) → e.end ≡ Done → cond (is_done e.end) (session_from n plan stop true e) e ≡ session_from n plan stop true e
+pub done_on : (n : ℕ) (plan : Plan) (stop : Option ℕ) (e : SessionData) → e.end ≡ Done → cond (is_done e.end) (session_from n plan stop true e) e ≡ session_from n plan stop true e
 done_on n plan stop e h = λ i. cond (is_done (h i)) (session_from n plan stop true e) e
 
-abbrev ok : End → Type 0
+abbrev pub ok : End → Type 0
 ok Done = ⊤
 ok Stopped = ⊥
 ok (OutOfRange x) = ⊥
@@ -198,24 +192,24 @@ stepped plan n m tails w k a b d e shown told steps same en em (Going p) moves =
 
 -- ---- from synchronisation to synchronisation
 
-halted : (n : ℕ) (plan : Plan) (stop : Option ℕ) (known : Bool) (d : SessionData) → d.state.depths ≡ [] → is_running plan d.state ≡ false → session_from n plan stop known d ≡ d
+pub halted : (n : ℕ) (plan : Plan) (stop : Option ℕ) (known : Bool) (d : SessionData) → d.state.depths ≡ [] → is_running plan d.state ≡ false → session_from n plan stop known d ≡ d
 unfolding session_from
 halted zero plan stop known d h r = refl
 halted (suc n) plan stop known d h r =
     λ i. cond (is_empty (h i) && not (r i)) d (onward n plan stop d (base_step plan stop known d.state))
 
-none_of : {X : Type 0} (b : Bool) (x y : X) → cond (b && false) x y ≡ y
+pub none_of : {X : Type 0} (b : Bool) (x y : X) → cond (b && false) x y ≡ y
 none_of true x y = refl
 none_of false x y = refl
 
-running : (n : ℕ) (plan : Plan) (stop : Option ℕ) (known : Bool) (d : SessionData) → is_running plan d.state ≡ true → session_from (suc n) plan stop known d ≡ onward n plan stop d (base_step plan stop known d.state)
+pub running : (n : ℕ) (plan : Plan) (stop : Option ℕ) (known : Bool) (d : SessionData) → is_running plan d.state ≡ true → session_from (suc n) plan stop known d ≡ onward n plan stop d (base_step plan stop known d.state)
 unfolding session_from
 running n plan stop known d r =
     (λ i. cond (is_empty d.state.depths && not (r i)) d (onward n plan stop d (base_step plan stop known d.state))) ∙
     none_of (is_empty d.state.depths) d (onward n plan stop d (base_step plan stop known d.state))
 
 -- the first force, where it isn't known, in front of a base step
-abbrev first_of : Bool → StateData → List Happening
+abbrev pub first_of : Bool → StateData → List Happening
 first_of known σ = cond known [] (Asked (only σ.bodies (ids_of σ.bodies)) ∷ [])
 
 first_asked : (known : Bool) (σ : StateData) → ask_if (not known) (ids_of σ.bodies) (record { bodies = σ.bodies; trail = [] }) ≡ led (first_of known σ) (record { bodies = σ.bodies; trail = [] })
@@ -227,10 +221,10 @@ first_untold true σ = refl
 first_untold false σ = refl
 
 -- the base step from a synchronisation, but for the first force
-abbrev whole_step : Plan → Option ℕ → StateData → Stepped
+abbrev pub whole_step : Plan → Option ℕ → StateData → Stepped
 whole_step plan stop σ = evolve plan.rules stop plan.rules.gravity.setup.top_bin (ids_of σ.bodies) σ.tick (record { bodies = σ.bodies; trail = [] })
 
-synced_step : (plan : Plan) (stop : Option ℕ) (known : Bool) (σ : StateData) → σ.depths ≡ [] → base_step plan stop known σ ≡ led_step (first_of known σ) (whole_step plan stop σ)
+pub synced_step : (plan : Plan) (stop : Option ℕ) (known : Bool) (σ : StateData) → σ.depths ≡ [] → base_step plan stop known σ ≡ led_step (first_of known σ) (whole_step plan stop σ)
 unfolding base_step
 synced_step plan stop known σ h =
     let all = ids_of σ.bodies in
@@ -304,11 +298,11 @@ tails_step plan small n m tails kd ke w k d e h timed en em run =
     let y : session_from (suc m) plan None ke e ≡ onward m plan None e (led_step b W) = running m plan None ke e rune ∙ ap (onward m plan None e) (synced_step plan None ke τ depths) ∙ ap (λ s. onward m plan None e (led_step b s)) (sym same_step) in
     subst (λ z. Ends w k z (session_from (suc m) plan None ke e)) (sym x) (subst (λ z. Ends w k (onward n plan None d (led_step a W)) z) (sym y) ends)
 
-either_way : {X : Type 0} (b : Bool) → (b ≡ true → X) → (b ≡ false → X) → X
+pub either_way : {X : Type 0} (b : Bool) → (b ≡ true → X) → (b ≡ false → X) → X
 either_way true f g = f refl
 either_way false f g = g refl
 
-over : {t m : ℕ} → t < m → m ≤ t + 0 → ⊥
+pub over : {t m : ℕ} → t < m → m ≤ t + 0 → ⊥
 over h g = omega (arith, h, g)
 
 tails : (plan : Plan) → plan.rules.gravity.setup.time_max ≤ 2 ^ 40 → (n m : ℕ) → Tails plan n m
@@ -351,18 +345,18 @@ nothing_moves r stop (suc c) P t p e =
     cond_moves (bin == r.gravity.setup.low_bin && not (is_empty F)) (Refused p (StepRange t (slice_index F 0))) (first >>= betweens >>= closes) tt
     (bind_moves (first >>= betweens) closes (bind_moves first betweens (kick_moves r bin P F t k known) (λ q. subst Moves (sym (between_empty stop (evolve r stop c) bin F t q (no_fast r bin P p.bodies e))) tt)) (close_moves r bin P F t))
 
-some_left : (B C : List BodyData) (Fs : List (List ℕ)) → ids_of C ≡ ids_of B → (B ≡ [] → ⊥) → is_empty (depths_of Fs C) ≡ false
+pub some_left : (B C : List BodyData) (Fs : List (List ℕ)) → ids_of C ≡ ids_of B → (B ≡ [] → ⊥) → is_empty (depths_of Fs C) ≡ false
 some_left B (c ∷ C) Fs e g = refl
 some_left [] [] Fs e g = absurd (g refl)
 some_left (b ∷ B) [] Fs e g = absurd (true≢false (ap is_empty e))
 
 -- a step that may be stopped beside the same step that isn't
-abbrev Resumable : Plan → Stepped → Stepped → Type 0
+abbrev pub Resumable : Plan → Stepped → Stepped → Type 0
 Resumable plan (Going p) whole = whole ≡ Going p
 Resumable plan (Refused p x) whole = whole ≡ Refused p x
 Resumable plan (Resting q tick Fs) whole = ((ρ : StateData) → IsFinished plan.rules (rest_state ρ q tick Fs) q whole) × (is_empty (depths_of Fs q.bodies) ≡ false)
 
-moving_resumes : (plan : Plan) (s : Stepped) → Moves s → Resumable plan s s
+pub moving_resumes : (plan : Plan) (s : Stepped) → Moves s → Resumable plan s s
 moving_resumes plan (Going p) m = refl
 moving_resumes plan (Refused p x) m = refl
 moving_resumes plan (Resting p tick Fs) m = absurd m
@@ -376,7 +370,7 @@ stopped_resumes plan u n B p (Resting q tick Fs) whole a nested ids some = (
   some_left B q.bodies Fs ids some,
 )
 
-resumable : (plan : Plan) (stop : Option ℕ) (σ : StateData) → IsTimed plan σ → IsStrictlyIncreasing (ids_of σ.bodies) → plan.rules.gravity.setup.top_bin ≤ 64 → Resumable plan (whole_step plan stop σ) (whole_step plan None σ)
+pub resumable : (plan : Plan) (stop : Option ℕ) (σ : StateData) → IsTimed plan σ → IsStrictlyIncreasing (ids_of σ.bodies) → plan.rules.gravity.setup.top_bin ≤ 64 → Resumable plan (whole_step plan stop σ) (whole_step plan None σ)
 resumable plan None σ timed inc small = moving_resumes plan (whole_step plan None σ) (evolve_moves plan.rules plan.rules.gravity.setup.top_bin (ids_of σ.bodies) σ.tick (record { bodies = σ.bodies; trail = [] }))
 resumable plan (Some u) σ timed inc small =
     let r = plan.rules in
@@ -432,20 +426,20 @@ counted_twice plan a B σ q tick Fs p =
     (λ i. plain (advance plan p.bodies (flat_map-append record_in a p.trail i) σ)) ∙
     (λ i. record (plain (advance plan p.bodies (A ++ T) σ)) { kicks = twice σ.kicks (2 ^ 64) A T i; interactions = twice_by σ.interactions (2 ^ 128) f A T i })
 
-resting_runs : (n : ℕ) (plan : Plan) (stop : Option ℕ) (known : Bool) (d : SessionData) → is_empty d.state.depths ≡ false → session_from (suc n) plan stop known d ≡ onward n plan stop d (base_step plan stop known d.state)
+pub resting_runs : (n : ℕ) (plan : Plan) (stop : Option ℕ) (known : Bool) (d : SessionData) → is_empty d.state.depths ≡ false → session_from (suc n) plan stop known d ≡ onward n plan stop d (base_step plan stop known d.state)
 unfolding session_from
 resting_runs n plan stop known d e = λ i. cond (e i && not (is_running plan d.state)) d (onward n plan stop d (base_step plan stop known d.state))
 
-resting_step : (plan : Plan) (stop : Option ℕ) (known : Bool) (σ : StateData) → is_empty σ.depths ≡ false → base_step plan stop known σ ≡ continue plan.rules stop σ (record { bodies = σ.bodies; trail = [] })
+pub resting_step : (plan : Plan) (stop : Option ℕ) (known : Bool) (σ : StateData) → is_empty σ.depths ≡ false → base_step plan stop known σ ≡ continue plan.rules stop σ (record { bodies = σ.bodies; trail = [] })
 unfolding base_step
 resting_step plan stop known σ e =
     λ i. cond (e i) (evolve plan.rules stop plan.rules.gravity.setup.top_bin (ids_of σ.bodies) σ.tick (ask_if (not known) (ids_of σ.bodies) (record { bodies = σ.bodies; trail = [] }))) (continue plan.rules stop σ (record { bodies = σ.bodies; trail = [] }))
 
-rest_resumes : (plan : Plan) → plan.rules.gravity.setup.time_max ≤ 2 ^ 40 → (n : ℕ) (a : List Happening) (d : SessionData) → IsTimed plan d.state → is_running plan d.state ≡ true → Enough plan (suc n) d.state →
+rest_resumes : (plan : Plan) → plan.rules.gravity.setup.time_max ≤ 2 ^ 40 → (n : ℕ) (a : List Happening) (d : SessionData) → ((p : Progress) → Enough plan n (advanced plan p d.state)) →
     (q : Progress) (tick : ℕ) (Fs : List (List ℕ)) (whole : Stepped) → Moves whole → Resumable plan (Resting q tick Fs) whole →
     GoesOn (onward n plan None d (led_step a whole)) (session plan true None (kept (rested (led a q) tick Fs d.state)))
 unfolding session
-rest_resumes plan small n a d timed run en q tick Fs whole moves h =
+rest_resumes plan small n a d en q tick Fs whole moves h =
     let σ = d.state in
     let ρ = kept (rested (led a q) tick Fs σ) in
     let start : SessionData = record { state = ρ; written = []; trail = []; states = []; questions = []; end = Done } in
@@ -460,7 +454,7 @@ rest_resumes plan small n a d timed run en q tick Fs whole moves h =
     let mw : Moves W = led_moves q.trail W (subst Moves F.step moves) in
     let ends : Ends w k (onward n plan None d (led_step c W)) (onward time plan None start (led_step b W)) =
     stepped plan n time (tails plan small n time) w k c b d start (sym (append-nil w)) (sym (append-nil k)) refl
-    (counted_twice plan c B σ q tick Fs) (λ p. advance_enough plan n p σ small timed run en) (λ p. omega arith) W mw in
+    (counted_twice plan c B σ q tick Fs) en (λ p. omega arith) W mw in
     let x : onward n plan None d (led_step a whole) ≡ onward n plan None d (led_step c W) = ap (λ s. onward n plan None d (led_step a s)) F.step ∙ ap (onward n plan None d) (led_led a q.trail W) in
     let y : session_from (time + 1) plan None false start ≡ onward time plan None start (led_step b W) =
     ap (λ m. session_from m plan None false start) (add-one time) ∙ resting_runs time plan None false start h.1 ∙ ap (onward time plan None start) (resting_step plan None false ρ h.1 ∙ F.rest) in
@@ -473,16 +467,16 @@ rest_resumes plan small n a d timed run en q tick Fs whole moves h =
 -- ---- a session that may stop beside one that doesn't
 
 -- the session stops at this synchronisation
-abbrev stops_here : Plan → Option ℕ → Option ℕ → SessionData → Bool
+abbrev pub stops_here : Plan → Option ℕ → Option ℕ → SessionData → Bool
 stops_here plan stop before d =
     let asks : Bool = elim before [ None ↦ false | Some w ↦ is_running plan d.state ] in
     asks && is_stop stop d.state.tick
 
 -- once the snapshot is counted
-abbrev once_shown : Plan → Option ℕ → SessionData → SessionData
+abbrev pub once_shown : Plan → Option ℕ → SessionData → SessionData
 once_shown plan before d = with_snapshot (is_due plan before d.state.tick || not (is_running plan d.state)) d
 
-abbrev synced_by : Plan → Option ℕ → SessionData → Bool → SessionData
+abbrev pub synced_by : Plan → Option ℕ → SessionData → Bool → SessionData
 synced_by plan before d stops =
     let asks : Bool = elim before [ None ↦ false | Some w ↦ is_running plan d.state ] in
     let shown = once_shown plan before d in
@@ -490,15 +484,15 @@ synced_by plan before d stops =
     let saved = with_restart (is_kept plan d.state || stops) told in
     record saved { states = d.states ++ shown.state ∷ []; end = cond stops Stopped Done }
 
-synced_is : (plan : Plan) (stop before : Option ℕ) (d : SessionData) → synchronised plan stop before d ≡ synced_by plan before d (stops_here plan stop before d)
+pub synced_is : (plan : Plan) (stop before : Option ℕ) (d : SessionData) → synchronised plan stop before d ≡ synced_by plan before d (stops_here plan stop before d)
 unfolding synchronised
 synced_is plan stop before d = refl
 
-never : (b : Bool) → (b && false) ≡ false
+pub never : (b : Bool) → (b && false) ≡ false
 never true = refl
 never false = refl
 
-synced_none : (plan : Plan) (before : Option ℕ) (d : SessionData) → synchronised plan None before d ≡ synced_by plan before d false
+pub synced_none : (plan : Plan) (before : Option ℕ) (d : SessionData) → synchronised plan None before d ≡ synced_by plan before d false
 synced_none plan before d = synced_is plan None before d ∙ ap (synced_by plan before d) (never (elim before [ None ↦ false | Some w ↦ is_running plan d.state ]))
 
 plain_restart : (b : Bool) (d : SessionData) → plain (with_restart b d).state ≡ plain d.state
@@ -515,7 +509,7 @@ plain_synced plan before d stops =
     let shown = once_shown plan before d in
     plain_restart (is_kept plan d.state || stops) (cond asks (record shown { questions = shown.questions ++ d.state.tick ∷ [] }) shown) ∙ plain_asked asks d.state.tick shown
 
-one_of_more : {X : Type 0} (x y : X) (ys : List X) → IsOneOf x (ys ++ y ∷ []) → IsOneOf x ys ⊎ (x ≡ y)
+pub one_of_more : {X : Type 0} (x y : X) (ys : List X) → IsOneOf x (ys ++ y ∷ []) → IsOneOf x ys ⊎ (x ≡ y)
 one_of_more x y [] (inl e) = inr e
 one_of_more x y [] (inr h) = absurd h
 one_of_more x y (z ∷ ys) (inl e) = inl (inl e)
@@ -526,7 +520,7 @@ one_of_more x y (z ∷ ys) (inr h) = one_more_step (one_of_more x y ys h)
     one_more_step (inr e) = inr e
 
 -- a state was there before, or the session goes on from it
-abbrev Claim : Plan → SessionData → StateData → SessionData → Type 0
+abbrev pub Claim : Plan → SessionData → StateData → SessionData → Type 0
 Claim plan D τ d = IsOneOf τ d.states ⊎ GoesOn D (session plan true None (kept τ))
 
 new_or_old : (plan : Plan) (D : SessionData) (τ σ : StateData) (d : SessionData) → IsOneOf τ d.states ⊎ (τ ≡ σ) → GoesOn D (session plan true None (kept σ)) → Claim plan D τ d
@@ -538,16 +532,16 @@ old_or_on plan D τ σ d (inl h) g = new_or_old plan D τ σ d (one_of_more τ �
 old_or_on plan D τ σ d (inr h) g = inr h
 
 -- what is shown of the sessions from a synchronisation on
-abbrev Outer : Plan → Option ℕ → ℕ → Type 0
+abbrev pub Outer : Plan → Option ℕ → ℕ → Type 0
 Outer plan stop n = (known : Bool) (d : SessionData) → IsTimed plan d.state → IsStrictlyIncreasing (ids_of d.state.bodies) → Enough plan n d.state → d.end ≡ Done →
     (τ : StateData) → IsOneOf τ (session_from n plan stop known d).states → Claim plan (session_from n plan None known d) τ d
 
 stop_end : (n : ℕ) (plan : Plan) (stop : Option ℕ) (e : SessionData) → e.end ≡ Stopped → cond (is_done e.end) (session_from n plan stop true e) e ≡ e
 stop_end n plan stop e h = λ i. cond (is_done (h i)) (session_from n plan stop true e) e
 
-went_on : (plan : Plan) → plan.rules.gravity.setup.time_max ≤ 2 ^ 40 → (stop : Option ℕ) (n : ℕ) → Outer plan stop n → (a : List Happening) (d : SessionData) → IsTimed plan d.state → is_running plan d.state ≡ true → Enough plan (suc n) d.state →
+went_on : (plan : Plan) → plan.rules.gravity.setup.time_max ≤ 2 ^ 40 → (stop : Option ℕ) (n : ℕ) → Outer plan stop n → (a : List Happening) (d : SessionData) → ((p : Progress) → Enough plan n (advanced plan p d.state)) →
     (p : Progress) → IsStrictlyIncreasing (ids_of p.bodies) → (τ : StateData) → IsOneOf τ (onward n plan stop d (led_step a (Going p))).states → Claim plan (onward n plan None d (led_step a (Going p))) τ d
-went_on plan small stop n outer a d timed run en p inc τ h =
+went_on plan small stop n outer a d en p inc τ h =
     let before : Option ℕ = Some (d.state.steps * 2 ^ plan.rules.gravity.setup.top_bin) in
     let x : SessionData = record (with_trail (a ++ p.trail) d) { state = advanced plan (led a p) d.state } in
     let e = synchronised plan stop before x in
@@ -556,7 +550,7 @@ went_on plan small stop n outer a d timed run en p inc τ h =
     let fd = sync_done plan before x in
     let times = sync_times plan None before x in
     let timedf : IsTimed plan f.state = record { depths = times.depths; tick = times.tick ∙ ap (λ t. t * 2 ^ plan.rules.gravity.setup.top_bin) (sym times.steps) } in
-    let enf : Enough plan n f.state = subst (λ t. plan.rules.gravity.setup.time_max ≤ t + n) (sym times.tick) (advance_enough plan n (led a p) d.state small timed run en) in
+    let enf : Enough plan n f.state = subst (λ t. plan.rules.gravity.setup.time_max ≤ t + n) (sym times.tick) (en (led a p)) in
     let incf : IsStrictlyIncreasing (ids_of f.state.bodies) = subst (λ B. IsStrictlyIncreasing (ids_of B)) (sym times.bodies) inc in
     let D = session_from n plan None true f in
     let same : plain f.state ≡ plain σ = ap (λ z. plain z.state) (synced_none plan before x) ∙ plain_synced plan before x false in
@@ -574,17 +568,17 @@ went_on plan small stop n outer a d timed run en p inc τ h =
     old_or_on plan D τ σ d (subst (λ xs. IsOneOf τ xs ⊎ GoesOn D (session plan true None (kept τ))) statesf (outer true f timedf incf enf fd τ k)) on) in
     subst (λ z. Claim plan z τ d) (sym (done_on n plan None f fd)) goal
 
-core : (plan : Plan) → plan.rules.gravity.setup.time_max ≤ 2 ^ 40 → (stop : Option ℕ) (n : ℕ) → Outer plan stop n → (a : List Happening) (d : SessionData) → IsTimed plan d.state → is_running plan d.state ≡ true → Enough plan (suc n) d.state →
+pub core : (plan : Plan) → plan.rules.gravity.setup.time_max ≤ 2 ^ 40 → (stop : Option ℕ) (n : ℕ) → Outer plan stop n → (a : List Happening) (d : SessionData) → ((p : Progress) → Enough plan n (advanced plan p d.state)) →
     (ids : List ℕ) → IsStrictlyIncreasing ids → (s whole : Stepped) → Resumable plan s whole → Holds (stay ids) s → Moves whole →
     (τ : StateData) → IsOneOf τ (onward n plan stop d (led_step a s)).states → Claim plan (onward n plan None d (led_step a whole)) τ d
-core plan small stop n outer a d timed run en ids inc (Going p) whole e stays moves τ h =
-    subst (λ z. Claim plan (onward n plan None d (led_step a z)) τ d) (sym e) (went_on plan small stop n outer a d timed run en p (subst IsStrictlyIncreasing (sym stays) inc) τ h)
-core plan small stop n outer a d timed run en ids inc (Refused p x) whole e stays moves τ h = inl h
-core plan small stop n outer a d timed run en ids inc (Resting q tick Fs) whole e stays moves τ h =
+core plan small stop n outer a d en ids inc (Going p) whole e stays moves τ h =
+    subst (λ z. Claim plan (onward n plan None d (led_step a z)) τ d) (sym e) (went_on plan small stop n outer a d en p (subst IsStrictlyIncreasing (sym stays) inc) τ h)
+core plan small stop n outer a d en ids inc (Refused p x) whole e stays moves τ h = inl h
+core plan small stop n outer a d en ids inc (Resting q tick Fs) whole e stays moves τ h =
     new_or_old plan (onward n plan None d (led_step a whole)) τ (rested (led a q) tick Fs d.state) d (one_of_more τ (rested (led a q) tick Fs d.state) d.states h)
-    (rest_resumes plan small n a d timed run en q tick Fs whole moves e)
+    (rest_resumes plan small n a d en q tick Fs whole moves e)
 
-outer_all : (plan : Plan) → plan.rules.gravity.setup.time_max ≤ 2 ^ 40 → plan.rules.gravity.setup.top_bin ≤ 64 → (stop : Option ℕ) (n : ℕ) → Outer plan stop n
+pub outer_all : (plan : Plan) → plan.rules.gravity.setup.time_max ≤ 2 ^ 40 → plan.rules.gravity.setup.top_bin ≤ 64 → (stop : Option ℕ) (n : ℕ) → Outer plan stop n
 unfolding session_from
 outer_all plan small low stop zero known d timed inc en done τ h = inl h
 outer_all plan small low stop (suc n) known d timed inc en done τ h =
@@ -599,7 +593,7 @@ outer_all plan small low stop (suc n) known d timed inc en done τ h =
     let y : session_from (suc n) plan None known d ≡ onward n plan None d (led_step a (whole_step plan None σ)) = running n plan None known d run ∙ ap (onward n plan None d) (synced_step plan None known σ timed.depths) in
     let stays = (evolve_known r (ids_of σ.bodies) inc stop top (ids_of σ.bodies) σ.tick p refl).1 in
     subst (λ z. Claim plan z τ d) (sym y)
-    (core plan small stop n (outer_all plan small low stop n) a d timed run en (ids_of σ.bodies) inc (whole_step plan stop σ) (whole_step plan None σ) (resumable plan stop σ timed inc low) stays
+    (core plan small stop n (outer_all plan small low stop n) a d (λ p. advance_enough plan n p σ small timed run en) (ids_of σ.bodies) inc (whole_step plan stop σ) (whole_step plan None σ) (resumable plan stop σ timed inc low) stays
     (evolve_moves r top (ids_of σ.bodies) σ.tick p) τ (subst (λ z. IsOneOf τ z.states) x h)))
     (λ run. inl (subst (λ z. IsOneOf τ z.states) (halted (suc n) plan stop known d timed.depths run) h))
 

@@ -85,7 +85,7 @@ remainders : (s all : ℕ) (ms : List BodyData) → 0 < all → sum_by (λ m. re
 remainders s all [] h = omega arith
 remainders s all (m ∷ ms) h = omega (arith, sum_by-cons (λ m. rest_of s all m) m ms, remainders s all ms h, mod_below (s * m.mass) all h)
 
-split : (s f all : ℕ) → f ≤ s → (s - f) * all + f * all ≡ s * all
+pub split : (s f all : ℕ) → f ≤ s → (s - f) * all + f * all ≡ s * all
 split s f all h = let e : s - f + f ≡ s = omega arith in omega (arith, ap (λ t. t * all) e)
 
 pub bounds : (s all f r n : ℕ) → 0 < all → s * all ≡ all * f + r → r ≤ n * all → (f ≤ s) × (s - f ≤ n)

@@ -26,6 +26,13 @@ snapshots_of written = flat_map shown_in written
 abbrev pub plain : StateData → StateData
 plain σ = record σ { next_restart = 0 }
 
+-- two states stand at the same place of a run: they differ at most in their counters and in the numbers of the next files
+pub record SameTimes (σ τ : StateData) : Type 0 where
+  pub depths : σ.depths ≡ τ.depths
+  pub steps : σ.steps ≡ τ.steps
+  pub tick : σ.tick ≡ τ.tick
+  pub bodies : σ.bodies ≡ τ.bodies
+
 -- of the first session the second one has the later snapshots, the later kicks and the end; where that is the last tick
 -- it ends in the same state, but for the number of the next restart file
 pub record Ends (shown : List Shown) (told : List Record) (D E : SessionData) : Type 0 where
