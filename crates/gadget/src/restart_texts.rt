@@ -2,9 +2,10 @@
 ghost use Rattle.std.specs.Prelude.{◌≡◌, ◌++◌, OnOk};
 ghost use Rattle.gadget.specs.Texts.{restart_fault_text};
 
-use crate::snap_texts::{push_counted, push_set_err, push_spaced};
+use crate::snap_texts::{push_counted, push_set_err};
 use fixed_point::Memory;
 use restart_files::RestartErr;
+use text_words::push_spaced;
 
 /// Puts what is wrong with a restart file behind a line.
 pub fn push_restart_err(line: &mut Vec<u8>, err: &RestartErr) -> Result<(), Memory>

@@ -6,15 +6,7 @@ use fixed_point::Memory;
 use particle_set::SetErr;
 use snap_file::SnapErr;
 use snapshot_blocks::{BlockErr, BlockKind};
-use text_words::push_unsigned;
-
-/// Puts a number behind a line, after a space.
-pub fn push_spaced(line: &mut Vec<u8>, n: u64) -> Result<(), Memory>
-    ensures { OnOk result (line.new.items ≡ line.old.items ++ spaced n) }
-{
-    line.push(b' ')?;
-    push_unsigned(line, u128::from(n))
-}
+use text_words::push_spaced;
 
 /// Some words, and a number.
 pub fn push_counted(line: &mut Vec<u8>, words: &[u8], n: u64) -> Result<(), Memory>

@@ -1,11 +1,10 @@
 // What is printed at the end.
-ghost use Rattle.std.specs.Prelude.{◌≡◌, ◌++◌, IfOk, OnOk, codes};
-ghost use Rattle.std.specs.Fmt.{signed_decimal};
+ghost use Rattle.std.specs.Prelude.{◌≡◌, ◌++◌, IfOk, OnOk};
 ghost use Rattle.nbody_model.specs.Bodies.{vector};
 ghost use Rattle.gadget.specs.Texts.{spaced, counted, vector_text, kind_text, param_text, list_text, table_text, expansion_text, status_words, status_text, IsNotMissing};
 
 use crate::restart_texts::push_restart_err;
-use crate::snap_texts::{push_snap_err, push_spaced};
+use crate::snap_texts::push_snap_err;
 use crate::status::Status;
 use ewald_table::TableErr;
 use expansion_table::ExpErr;
@@ -16,7 +15,7 @@ use restart_files::RestartErr;
 use snap_file::SnapErr;
 use std::alloc::Global;
 use store_io::Text;
-use text_words::{push_number, push_unsigned};
+use text_words::{push_spaced, push_spaced_signed, push_unsigned};
 
 const USAGE: &[u8] =
     b"usage: gadget run PARAM RANKS | resume PARAM RESTART RANKS | check PARAM | show SNAP | make COUNT SEED NAME";
@@ -30,21 +29,13 @@ pub fn push_counted(line: &mut Vec<u8>, words: &[u8], n: u128) -> Result<(), Mem
     push_unsigned(line, n)
 }
 
-// Puts a number behind a line, after a space.
-fn push_signed(line: &mut Vec<u8>, n: i128) -> Result<(), Memory>
-    ensures { OnOk result (line.new.items ≡ line.old.items ++ (codes " " ++ signed_decimal n)) }
-{
-    line.push(b' ')?;
-    push_number(line, n)
-}
-
 /// Puts three numbers behind a line, each after a space.
 pub fn push_vector(line: &mut Vec<u8>, v: &[i128; 3]) -> Result<(), Memory>
     ensures { OnOk result (line.new.items ≡ line.old.items ++ vector_text (vector v.now)) }
 {
-    push_signed(line, v[0])?;
-    push_signed(line, v[1])?;
-    push_signed(line, v[2])
+    push_spaced_signed(line, v[0])?;
+    push_spaced_signed(line, v[1])?;
+    push_spaced_signed(line, v[2])
 }
 
 // The words for what is wrong with a parameter file.

@@ -4,7 +4,8 @@ use Rattle.std.specs.List.{flat_map}
 use Rattle.std.specs.Fmt.{signed_decimal}
 use Rattle.std.proofs.lemmas.List.Concat.{flat_map-append}
 use Rattle.nbody_model.specs.Texts.{line_of}
-use Rattle.run_session.specs.Spaced.{spaced, spaced_numbers, spaced_signed}
+use Rattle.run_session.specs.Spaced.{spaced_numbers, spaced_signed}
+use Rattle.text_words.specs.Spaced.{spaced}
 
 join_five : (a b c d e : List ℕ) → (a ++ b) ++ ((c ++ d) ++ e) ≡ (a ++ ((b ++ c) ++ d)) ++ e
 join_five a b c d e = simp append_assoc

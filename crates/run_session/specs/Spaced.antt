@@ -1,11 +1,8 @@
 -- Words of a line behind its first one.
-use Rattle.std.specs.Prelude.{ℕ, ℤ, List, ◌++◌, codes, decimal}
+use Rattle.std.specs.Prelude.{ℕ, ℤ, List, decimal}
 use Rattle.std.specs.List.{flat_map}
 use Rattle.std.specs.Fmt.{signed_decimal}
-
--- a word after a space
-abbrev pub spaced : List ℕ → List ℕ
-spaced word = codes " " ++ word
+use Rattle.text_words.specs.Spaced.{spaced}
 
 -- numbers, each after a space
 unfoldable pub spaced_numbers : List ℕ → List ℕ

@@ -3,20 +3,12 @@ ghost use Rattle.std.specs.Prelude.{◌≡◌, ◌++◌, ◌∷◌, [], IfOk, On
 ghost use Rattle.std.specs.List.{flat_map};
 ghost use Rattle.fixed_point.specs.Bytes.{bytes32, bytes64};
 ghost use Rattle.nbody_model.specs.Texts.{kick_line, event_word, event_ranks, event_line, trace_block, bins_record};
-ghost use Rattle.run_session.specs.Spaced.{spaced, spaced_numbers, spaced_signed};
+ghost use Rattle.run_session.specs.Spaced.{spaced_numbers, spaced_signed};
 
 use fixed_point::Memory;
 use nbody_model::{Event, EventKind, Field, Record};
 use std::alloc::Global;
-use text_words::{push_number, push_unsigned};
-
-// Puts a number behind a line, after a space.
-fn push_spaced(line: &mut Vec<u8>, n: u64) -> Result<(), Memory>
-    ensures { OnOk result (line.new.items ≡ line.old.items ++ spaced (decimal n)) }
-{
-    line.push(b' ')?;
-    push_unsigned(line, u128::from(n))
-}
+use text_words::{push_spaced, push_spaced_signed, push_unsigned};
 
 // Puts numbers behind a line, each after a space.
 #[tactic(auto, unfolding(crate::specs::Spaced::spaced_numbers))]
@@ -35,8 +27,7 @@ fn push_vector(line: &mut Vec<u8>, v: &[i128; 3]) -> Result<(), Memory>
     ensures { OnOk result (line.new.items ≡ line.old.items ++ spaced_signed v.now) }
 {
     for number in v {
-        line.push(b' ')?;
-        push_number(line, *number)?;
+        push_spaced_signed(line, *number)?;
     }
     Ok(())
 }

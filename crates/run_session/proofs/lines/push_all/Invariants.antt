@@ -1,6 +1,6 @@
 use Rattle.std.proofs.Common.{◌≡◌, ◌++◌, take, decimal}
 use Rattle.std.specs.List.{flat_map}
-use Rattle.run_session.specs.Spaced.{spaced}
+use Rattle.text_words.specs.Spaced.{spaced}
 use Rattle.run_session.proofs.lines.push_all.Given as goal
 
 abbrev pub invariant-loop-number : goal.invariant-loop-number

@@ -1,7 +1,7 @@
 use Rattle.std.proofs.Common.{◌≡◌, ◌++◌, take}
 use Rattle.std.specs.List.{flat_map}
 use Rattle.std.specs.Fmt.{signed_decimal}
-use Rattle.run_session.specs.Spaced.{spaced}
+use Rattle.text_words.specs.Spaced.{spaced}
 use Rattle.run_session.proofs.lines.push_vector.Given as goal
 
 abbrev pub invariant-loop-number : goal.invariant-loop-number
