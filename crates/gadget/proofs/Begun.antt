@@ -4,43 +4,36 @@ use Rattle.store_io.specs.Causes.{Call}
 use Rattle.store_io.specs.Files.{Files}
 use Rattle.nbody_model.specs.Setups.{SetupData}
 use Rattle.nbody_model.specs.States.{StateData}
-use Rattle.nbody_model.specs.Tables.{TableData, ExpansionData}
-use Rattle.param_file.specs.Settings.{ParamsData, setup_of}
+use Rattle.param_file.specs.Settings.{setup_of}
 use Rattle.gadget.specs.declared.status.Status.{Status}
 use Rattle.gadget.specs.Reads.{Seen}
-use Rattle.gadget.specs.Inputs.{Accepts}
+use Rattle.gadget.specs.Inputs.{InputsData, Accepts}
 use Rattle.gadget.specs.Snapshots.{SnapshotRefusal}
 use Rattle.gadget.specs.Restarts.{NamesState, DiffersIn}
 use Rattle.gadget.specs.Begins.{RunRefusal, ResumeRefusal}
 use Rattle.gadget.proofs.Stages.{seen, seen_is, held}
 
-pub bodies_refused : (t t1 : Bool) (d d1 : Files) (n n1 now : ℕ) (last : Option Call) (name : List ℕ) (p : ParamsData) (times : List ℕ) (table : Option TableData) (factors : Option ExpansionData) (status : Status)
+pub bodies_refused : (t t1 : Bool) (d d1 : Files) (n n1 now : ℕ) (last : Option Call) (name : List ℕ) (i : InputsData) (status : Status)
     → t1 ≡ t → d1 ≡ d → n1 ≡ n
-    → (IsTrue t → Accepts d name p times table factors)
-    → SnapshotRefusal (seen t1 d1 n1 now last) p.init_cond_file status
+    → (IsTrue t → Accepts d name i)
+    → SnapshotRefusal (seen t1 d1 n1 now last) i.params.init_cond_file status
     → RunRefusal (seen t d n now last) name status
-bodies_refused t t1 d d1 n n1 now last name p times table factors status a b c accepted refused =
+bodies_refused t t1 d d1 n n1 now last name i status a b c accepted refused =
     inr (record {
-      params = p;
-      times = times;
-      table = table;
-      factors = factors;
+      inputs = i;
       accepted = accepted;
-      refused = subst (λ (s : Seen). SnapshotRefusal s p.init_cond_file status) (seen_is t1 t d1 d n1 n now last a b c) refused;
+      refused = subst (λ (s : Seen). SnapshotRefusal s i.params.init_cond_file status) (seen_is t1 t d1 d n1 n now last a b c) refused;
     })
 
-pub settings_refused : (t t1 : Bool) (d d1 : Files) (n now : ℕ) (last : Option Call) (name restart : List ℕ) (p : ParamsData) (times : List ℕ) (table : Option TableData) (factors : Option ExpansionData) (σ : StateData) (s : SetupData) (status : Status)
+pub settings_refused : (t t1 : Bool) (d d1 : Files) (n now : ℕ) (last : Option Call) (name restart : List ℕ) (i : InputsData) (σ : StateData) (s : SetupData) (status : Status)
     → t1 ≡ t → d1 ≡ d
-    → (IsTrue t → Accepts d name p times table factors)
+    → (IsTrue t → Accepts d name i)
     → (IsTrue t1 → NamesState d1 restart σ s)
-    → DiffersIn s (setup_of p) status
+    → DiffersIn s (setup_of i.params) status
     → ResumeRefusal (seen t d n now last) name restart status
-settings_refused t t1 d d1 n now last name restart p times table factors σ s status a b accepted kept refused =
+settings_refused t t1 d d1 n now last name restart i σ s status a b accepted kept refused =
     inr (inr (record {
-      params = p;
-      times = times;
-      table = table;
-      factors = factors;
+      inputs = i;
       accepted = accepted;
       state = σ;
       setup = s;

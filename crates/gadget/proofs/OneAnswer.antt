@@ -4,7 +4,7 @@ use Rattle.store_io.specs.Files.{Files}
 use Rattle.nbody_model.specs.Bodies.{BodyData}
 use Rattle.nbody_model.specs.Setups.{SetupData}
 use Rattle.nbody_model.specs.States.{StateData}
-use Rattle.nbody_model.specs.Tables.{Gravity, TableData, ExpansionData}
+use Rattle.nbody_model.specs.Tables.{Gravity}
 use Rattle.nbody_model.specs.Evolve.{MomRange as MomentumOut, StepRange as StepOut}
 use Rattle.nbody_model.specs.Session.{SessionData, End, OutOfRange, asked, session}
 use Rattle.nbody_model.specs.Session.{Done as SessionDone, Stopped as SessionStopped}
@@ -28,13 +28,15 @@ use Rattle.gadget.specs.Texts.{check_text, done_text, show_text, status_text}
 use Rattle.gadget.specs.Outcomes.{status_at, text_at, status_of, text_of}
 use Rattle.gadget.specs.Decided.{AnswersAreExact, IsDecided, IsOneAnswer}
 use Rattle.gadget.specs.Snapshots.{NamesSnapshot, longest_snapshot}
-use Rattle.gadget.specs.Begins.{first_state}
+use Rattle.gadget.specs.Reads.{FileSpells}
+use Rattle.gadget.specs.Inputs.{InputsData}
+use Rattle.gadget.specs.Begins.{first_state, plan_by}
 use Rattle.gadget.specs.Answers.{CheckDoes, OnRanks, RefusesAtOnce, ResumeDoes, RunDoes, SessionEnds, ShowDoes, Untouched, seen}
 use Rattle.gadget.proofs.Exact.{IsExact}
 use Rattle.gadget.proofs.OneEnd.{events_one, leaves_one}
 use Rattle.gadget.proofs.OneSnapshot.{IsNoSnapshot, snapshot_exact}
-use Rattle.gadget.proofs.OneFile.{FileGives, SnapshotRefuses, file_exact, snapshot_refused}
-use Rattle.gadget.proofs.OneReading.{RunStages, RunGiven, RunValue, run_exact, run_refused, run_given, ResumeStages, ResumeGiven, ResumeValue, resume_exact, resume_refused, resume_given}
+use Rattle.gadget.proofs.OneFile.{SnapshotRefuses, file_exact, snapshot_refused}
+use Rattle.gadget.proofs.OneReading.{RunStages, RunGiven, RunValue, run_value, run_exact, run_refused, run_given, ResumeStages, ResumeGiven, ResumeValue, resume_value, resume_exact, resume_refused, resume_given}
 
 -- ---- the end of a session
 
@@ -145,17 +147,24 @@ files_one p resumed σ g sessions A Y B Z e f ends.Memory b same h is i j = absu
 
 -- what a run goes by, and the state that it begins with
 abbrev Start : Type 0
-Start = ParamsData × (List ℕ × (Option TableData × (Option ExpansionData × StateData)))
+Start = InputsData × StateData
 
 abbrev EndsFrom : Bool → Start → World → World → Ended → Type 0
-EndsFrom resumed x A Z e = SessionEnds resumed true A Z x.0 x.1.0 x.1.1.0 x.1.1.1.0 x.1.1.1.1 e
+EndsFrom resumed x A Z e = SessionEnds resumed true A Z x.0 x.1 e
+
+-- of all that was read
+abbrev run_start : RunValue → Start
+run_start z = (record { params = z.0; times = z.1.1.0; table = z.1.1.1.0; factors = z.1.1.1.1.0 }, first_state z.1.1.1.1.1)
+
+abbrev resume_start : ResumeValue → Start
+resume_start z = (record { params = z.0; times = z.1.1.0; table = z.1.1.1.0; factors = z.1.1.1.1.0 }, z.1.1.1.1.1.0.0)
 
 same_start : (resumed : Bool) (x : Start) (A Y B Z : World) (e f : Ended) (s : SetupData) → B.files ≡ A.files → EndsFrom resumed x A Y e → EndsFrom resumed x B Z f → IsDecided (status_at e e.end) → IsDecided (status_at f f.end) → IsOneAnswer Y Z (Ran e s) (Ran f s)
 same_start resumed x A Y B Z e f s same h k i j =
-    let p = x.0 in
-    let σ = x.1.1.1.1 in
-    let g : Gravity = record { setup = setup_of p; table = x.1.1.0 } in
-    let sessions : Option ℕ → SessionData = λ stop. session (plan_of g x.1.1.1.0 p x.1.0) resumed stop σ in
+    let p = x.0.params in
+    let σ = x.1 in
+    let g : Gravity = record { setup = setup_of p; table = x.0.table } in
+    let sessions : Option ℕ → SessionData = λ stop. session (plan_by x.0) resumed stop σ in
     let statuses : status_at e e.end ≡ status_at f f.end =
     status_is p resumed σ (quiet g []) true sessions A Y e e.end i h.by_session ∙ sym (status_is p resumed σ (quiet g []) true sessions B Z f f.end j k.by_session) in
     let both : AreEnds p resumed σ (quiet g []) sessions A Y B Z e f e.end f.end = record { first = h.by_session; second = k.by_session; momentum = h.momentum ∙ sym k.momentum } in
@@ -165,9 +174,9 @@ same_start resumed x A Y B Z e f s same h k i j =
       files = files_one p resumed σ g sessions A Y B Z e f e.end f.end same both statuses i j;
     }
 
-ran_one : (resumed : Bool) (x y : Start) (A Y B Z : World) (e f : Ended) (s t : SetupData) → B.files ≡ A.files → x ≡ y → s ≡ setup_of x.0 → t ≡ setup_of y.0 → EndsFrom resumed x A Y e → EndsFrom resumed y B Z f → IsDecided (status_at e e.end) → IsDecided (status_at f f.end) → IsOneAnswer Y Z (Ran e s) (Ran f t)
+ran_one : (resumed : Bool) (x y : Start) (A Y B Z : World) (e f : Ended) (s t : SetupData) → B.files ≡ A.files → x ≡ y → s ≡ setup_of x.0.params → t ≡ setup_of y.0.params → EndsFrom resumed x A Y e → EndsFrom resumed y B Z f → IsDecided (status_at e e.end) → IsDecided (status_at f f.end) → IsOneAnswer Y Z (Ran e s) (Ran f t)
 ran_one resumed x y A Y B Z e f s t files same u v h k i j =
-    let setups : s ≡ t = u ∙ ap (λ z. setup_of z.0) same ∙ sym v in
+    let setups : s ≡ t = u ∙ ap (λ (z : Start). setup_of z.0.params) same ∙ sym v in
     subst (λ z. IsOneAnswer Y Z (Ran e s) (Ran f z)) setups
     (same_start resumed y A Y B Z e f s files (subst (λ z. EndsFrom resumed z A Y e) same h) k i j)
 
@@ -181,17 +190,16 @@ refused_one Refuses A Y B Z a b same one p q h k = record { status = one a b p q
 
 run_one : (A Y B Z : World) (name : List ℕ) (o q : Outcome) → B.files ≡ A.files → RunDoes true A Y name o → RunDoes true B Z name q → IsDecided (status_of o) → IsDecided (status_of q) → IsOneAnswer Y Z o q
 run_one A Y B Z name (Ran e s) (Ran f t) same h k i j =
-    let x : RunValue = (h.params, (tt, (h.times, (h.table, (h.factors, h.bodies))))) in
-    let y : RunValue = (k.params, (tt, (k.times, (k.table, (k.factors, k.bodies))))) in
-    let mine : RunGiven A.files name x = run_given A.files name h.params h.times h.table h.factors h.bodies (h.accepted refl) in
-    let other : RunGiven B.files name y = run_given B.files name k.params k.times k.table k.factors k.bodies (k.accepted refl) in
+    let x : RunValue = run_value h.inputs h.bodies in
+    let y : RunValue = run_value k.inputs k.bodies in
+    let mine : RunGiven A.files name x = run_given A.files name h.inputs h.bodies (h.accepted refl) in
+    let other : RunGiven B.files name y = run_given B.files name k.inputs k.bodies (k.accepted refl) in
     let values : x ≡ y = (run_exact A.files name).one_value x y mine (subst (λ F. RunGiven F name y) same other) in
-    ran_one false (h.params, (h.times, (h.table, (h.factors, first_state h.bodies)))) (k.params, (k.times, (k.table, (k.factors, first_state k.bodies)))) A Y B Z e f s t same
-    (ap (λ (z : RunValue). (z.0, (z.1.1.0, (z.1.1.1.0, (z.1.1.1.1.0, first_state z.1.1.1.1.1))))) values) h.setup k.setup h.ends k.ends i j
+    ran_one false (h.inputs, first_state h.bodies) (k.inputs, first_state k.bodies) A Y B Z e f s t same (ap run_start values) h.setup k.setup h.ends k.ends i j
 run_one A Y B Z name (Ran e s) (Refused b) same h k i j =
-    absurd ((run_exact A.files name).apart b (h.params, (tt, (h.times, (h.table, (h.factors, h.bodies))))) (subst (λ F. RunStages F name b) same (run_refused (seen true B Z) name refl b j k.0)) (run_given A.files name h.params h.times h.table h.factors h.bodies (h.accepted refl)))
+    absurd ((run_exact A.files name).apart b (run_value h.inputs h.bodies) (subst (λ F. RunStages F name b) same (run_refused (seen true B Z) name refl b j k.0)) (run_given A.files name h.inputs h.bodies (h.accepted refl)))
 run_one A Y B Z name (Refused a) (Ran f t) same h k i j =
-    absurd ((run_exact B.files name).apart a (k.params, (tt, (k.times, (k.table, (k.factors, k.bodies))))) (subst (λ F. RunStages F name a) (sym same) (run_refused (seen true A Y) name refl a i h.0)) (run_given B.files name k.params k.times k.table k.factors k.bodies (k.accepted refl)))
+    absurd ((run_exact B.files name).apart a (run_value k.inputs k.bodies) (subst (λ F. RunStages F name a) (sym same) (run_refused (seen true A Y) name refl a i h.0)) (run_given B.files name k.inputs k.bodies (k.accepted refl)))
 run_one A Y B Z name (Refused a) (Refused b) same h k i j =
     refused_one (RunStages A.files name) A Y B Z a b same (run_exact A.files name).one_refusal (run_refused (seen true A Y) name refl a i h.0) (subst (λ F. RunStages F name b) same (run_refused (seen true B Z) name refl b j k.0)) h.1 k.1
 run_one A Y B Z name (Checked C) q same h k i j = absurd h
@@ -203,17 +211,16 @@ run_one A Y B Z name (Refused a) (Shown head C) same h k i j = absurd k
 
 resume_one : (A Y B Z : World) (name restart : List ℕ) (o q : Outcome) → B.files ≡ A.files → ResumeDoes true A Y name restart o → ResumeDoes true B Z name restart q → IsDecided (status_of o) → IsDecided (status_of q) → IsOneAnswer Y Z o q
 resume_one A Y B Z name restart (Ran e s) (Ran f t) same h k i j =
-    let x : ResumeValue = (h.params, (tt, (h.times, (h.table, (h.factors, ((h.state, setup_of h.params), tt)))))) in
-    let y : ResumeValue = (k.params, (tt, (k.times, (k.table, (k.factors, ((k.state, setup_of k.params), tt)))))) in
-    let mine : ResumeGiven A.files name restart x = resume_given A.files name restart h.params h.times h.table h.factors h.state (h.accepted refl) in
-    let other : ResumeGiven B.files name restart y = resume_given B.files name restart k.params k.times k.table k.factors k.state (k.accepted refl) in
+    let x : ResumeValue = resume_value h.inputs h.state in
+    let y : ResumeValue = resume_value k.inputs k.state in
+    let mine : ResumeGiven A.files name restart x = resume_given A.files name restart h.inputs h.state (h.accepted refl) in
+    let other : ResumeGiven B.files name restart y = resume_given B.files name restart k.inputs k.state (k.accepted refl) in
     let values : x ≡ y = (resume_exact A.files name restart).one_value x y mine (subst (λ F. ResumeGiven F name restart y) same other) in
-    ran_one true (h.params, (h.times, (h.table, (h.factors, h.state)))) (k.params, (k.times, (k.table, (k.factors, k.state)))) A Y B Z e f s t same
-    (ap (λ (z : ResumeValue). (z.0, (z.1.1.0, (z.1.1.1.0, (z.1.1.1.1.0, z.1.1.1.1.1.0.0))))) values) h.setup k.setup h.ends k.ends i j
+    ran_one true (h.inputs, h.state) (k.inputs, k.state) A Y B Z e f s t same (ap resume_start values) h.setup k.setup h.ends k.ends i j
 resume_one A Y B Z name restart (Ran e s) (Refused b) same h k i j =
-    absurd ((resume_exact A.files name restart).apart b (h.params, (tt, (h.times, (h.table, (h.factors, ((h.state, setup_of h.params), tt)))))) (subst (λ F. ResumeStages F name restart b) same (resume_refused (seen true B Z) name restart refl b j k.0)) (resume_given A.files name restart h.params h.times h.table h.factors h.state (h.accepted refl)))
+    absurd ((resume_exact A.files name restart).apart b (resume_value h.inputs h.state) (subst (λ F. ResumeStages F name restart b) same (resume_refused (seen true B Z) name restart refl b j k.0)) (resume_given A.files name restart h.inputs h.state (h.accepted refl)))
 resume_one A Y B Z name restart (Refused a) (Ran f t) same h k i j =
-    absurd ((resume_exact B.files name restart).apart a (k.params, (tt, (k.times, (k.table, (k.factors, ((k.state, setup_of k.params), tt)))))) (subst (λ F. ResumeStages F name restart a) (sym same) (resume_refused (seen true A Y) name restart refl a i h.0)) (resume_given B.files name restart k.params k.times k.table k.factors k.state (k.accepted refl)))
+    absurd ((resume_exact B.files name restart).apart a (resume_value k.inputs k.state) (subst (λ F. ResumeStages F name restart a) (sym same) (resume_refused (seen true A Y) name restart refl a i h.0)) (resume_given B.files name restart k.inputs k.state (k.accepted refl)))
 resume_one A Y B Z name restart (Refused a) (Refused b) same h k i j =
     refused_one (ResumeStages A.files name restart) A Y B Z a b same (resume_exact A.files name restart).one_refusal (resume_refused (seen true A Y) name restart refl a i h.0) (subst (λ F. ResumeStages F name restart b) same (resume_refused (seen true B Z) name restart refl b j k.0)) h.1 k.1
 resume_one A Y B Z name restart (Checked C) q same h k i j = absurd h
@@ -227,20 +234,20 @@ resume_one A Y B Z name restart (Refused a) (Shown head C) same h k i j = absurd
 
 check_one : (A Y B Z : World) (name : List ℕ) (o q : Outcome) → B.files ≡ A.files → CheckDoes (seen true A Y) name o → CheckDoes (seen true B Z) name q → Untouched A Y → Untouched B Z → IsDecided (status_of o) → IsDecided (status_of q) → IsOneAnswer Y Z o q
 check_one A Y B Z name (Checked C) (Checked D) same h k l m i j =
-    let a = h refl in
-    let b = k refl in
-    let x : RunValue = (a.params, (tt, (a.times, (a.table, (a.factors, C))))) in
-    let y : RunValue = (b.params, (tt, (b.times, (b.table, (b.factors, D))))) in
-    let mine : RunGiven A.files name x = run_given A.files name a.params a.times a.table a.factors C a.accepted in
-    let other : RunGiven B.files name y = run_given B.files name b.params b.times b.table b.factors D b.accepted in
+    let a = h.1 refl in
+    let b = k.1 refl in
+    let x : RunValue = run_value a.inputs C in
+    let y : RunValue = run_value b.inputs D in
+    let mine : RunGiven A.files name x = run_given A.files name a.inputs C a.accepted in
+    let other : RunGiven B.files name y = run_given B.files name b.inputs D b.accepted in
     let values : x ≡ y = (run_exact A.files name).one_value x y mine (subst (λ F. RunGiven F name y) same other) in
     record { status = refl; text = ap (λ (z : RunValue). check_text z.1.1.1.1.1) values; files = untouched_one A Y B Z same l m }
 check_one A Y B Z name (Checked C) (Refused b) same h k l m i j =
-    let a = h refl in
-    absurd ((run_exact A.files name).apart b (a.params, (tt, (a.times, (a.table, (a.factors, C))))) (subst (λ F. RunStages F name b) same (run_refused (seen true B Z) name refl b j k)) (run_given A.files name a.params a.times a.table a.factors C a.accepted))
+    let a = h.1 refl in
+    absurd ((run_exact A.files name).apart b (run_value a.inputs C) (subst (λ F. RunStages F name b) same (run_refused (seen true B Z) name refl b j k)) (run_given A.files name a.inputs C a.accepted))
 check_one A Y B Z name (Refused a) (Checked D) same h k l m i j =
-    let b = k refl in
-    absurd ((run_exact B.files name).apart a (b.params, (tt, (b.times, (b.table, (b.factors, D))))) (subst (λ F. RunStages F name a) (sym same) (run_refused (seen true A Y) name refl a i h)) (run_given B.files name b.params b.times b.table b.factors D b.accepted))
+    let b = k.1 refl in
+    absurd ((run_exact B.files name).apart a (run_value b.inputs D) (subst (λ F. RunStages F name a) (sym same) (run_refused (seen true A Y) name refl a i h)) (run_given B.files name b.inputs D b.accepted))
 check_one A Y B Z name (Refused a) (Refused b) same h k l m i j =
     refused_one (RunStages A.files name) A Y B Z a b same (run_exact A.files name).one_refusal (run_refused (seen true A Y) name refl a i h) (subst (λ F. RunStages F name b) same (run_refused (seen true B Z) name refl b j k)) l m
 check_one A Y B Z name (Ran e u) q same h k l m i j = absurd h
@@ -264,20 +271,20 @@ spells_exact bytes = record {
   apart = λ a x p q. (snapshot_exact bytes).apart a x.1 p q.1;
 }
 
-show_exact : (files : Files) (name : List ℕ) → IsExact (SnapshotRefuses files name) (FileGives files name longest_snapshot Spells)
+show_exact : (files : Files) (name : List ℕ) → IsExact (SnapshotRefuses files name) (FileSpells files name longest_snapshot Spells)
 show_exact files name = file_exact files name longest_snapshot IsNoSnapshot Spells Snapshot spells_exact
 
-shown : (files : Files) (name : List ℕ) (head : Head) (C : List BodyData) → NamesSnapshot files name head C → FileGives files name longest_snapshot Spells (head, C)
+shown : (files : Files) (name : List ℕ) (head : Head) (C : List BodyData) → NamesSnapshot files name head C → FileSpells files name longest_snapshot Spells (head, C)
 shown files name head C n = record { bytes = n.bytes; read = n.read; spelled = (n.head_is, n.spelled) }
 
 show_one : (A Y B Z : World) (name : List ℕ) (o q : Outcome) → B.files ≡ A.files → ShowDoes (seen true A Y) name o → ShowDoes (seen true B Z) name q → Untouched A Y → Untouched B Z → IsDecided (status_of o) → IsDecided (status_of q) → IsOneAnswer Y Z o q
 show_one A Y B Z name (Shown a C) (Shown b D) same h k l m i j =
-    let values : (a, C) ≡ (b, D) = (show_exact A.files name).one_value (a, C) (b, D) (shown A.files name a C (h refl)) (subst (λ F. FileGives F name longest_snapshot Spells (b, D)) same (shown B.files name b D (k refl))) in
+    let values : (a, C) ≡ (b, D) = (show_exact A.files name).one_value (a, C) (b, D) (shown A.files name a C (h.1 refl)) (subst (λ F. FileSpells F name longest_snapshot Spells (b, D)) same (shown B.files name b D (k.1 refl))) in
     record { status = refl; text = ap (λ (z : Head × List BodyData). show_text z.0 z.1) values; files = untouched_one A Y B Z same l m }
 show_one A Y B Z name (Shown a C) (Refused b) same h k l m i j =
-    absurd ((show_exact A.files name).apart b (a, C) (subst (λ F. SnapshotRefuses F name b) same (snapshot_refused (seen true B Z) name refl b j k)) (shown A.files name a C (h refl)))
+    absurd ((show_exact A.files name).apart b (a, C) (subst (λ F. SnapshotRefuses F name b) same (snapshot_refused (seen true B Z) name refl b j k)) (shown A.files name a C (h.1 refl)))
 show_one A Y B Z name (Refused a) (Shown b D) same h k l m i j =
-    absurd ((show_exact B.files name).apart a (b, D) (subst (λ F. SnapshotRefuses F name a) (sym same) (snapshot_refused (seen true A Y) name refl a i h)) (shown B.files name b D (k refl)))
+    absurd ((show_exact B.files name).apart a (b, D) (subst (λ F. SnapshotRefuses F name a) (sym same) (snapshot_refused (seen true A Y) name refl a i h)) (shown B.files name b D (k.1 refl)))
 show_one A Y B Z name (Refused a) (Refused b) same h k l m i j =
     refused_one (SnapshotRefuses A.files name) A Y B Z a b same (show_exact A.files name).one_refusal (snapshot_refused (seen true A Y) name refl a i h) (subst (λ F. SnapshotRefuses F name b) same (snapshot_refused (seen true B Z) name refl b j k)) l m
 show_one A Y B Z name (Ran e u) q same h k l m i j = absurd h

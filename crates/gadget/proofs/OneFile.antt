@@ -2,32 +2,25 @@
 use Rattle.std.proofs.Common.{◌≡◌, ◌⊎◌, ◌<◌, ℕ, Bool, true, false, IsTrue, List, length, Option, Some, None, inl, inr, refl, sym, ap, ◌∙◌, arith}
 use Rattle.store_io.specs.Files.{Files}
 use Rattle.text_words.specs.Comments.{lines_in}
-use Rattle.nbody_model.specs.Bodies.{BodyData}
-use Rattle.nbody_model.specs.Setups.{SetupData}
-use Rattle.nbody_model.specs.States.{StateData}
 use Rattle.nbody_model.specs.Tables.{TableData, ExpansionData}
 use Rattle.param_file.specs.Settings.{ParamsData}
-use Rattle.param_file.specs.Reading.{Spell as SpellParams, IsFirstFault as IsParamFault}
-use Rattle.param_file.specs.declared.errors.ParamErr.{ParamErr}
-use Rattle.output_schedule.specs.Times.{Spell as SpellTimes}
 use Rattle.ewald_table.specs.TableFile.{Spell as SpellTable}
-use Rattle.expansion_table.specs.ExpansionFile.{Spell as SpellFactors}
 use Rattle.snap_file.specs.Snapshots.{SpellsSnapshot}
 use Rattle.gadget.specs.declared.status.Status.{Status}
 use Rattle.gadget.specs.declared.status.Status.TheVariants.{Done, Stopped, Usage, Memory, ReadFault, WriteFault, ConsoleFault, Absent, TooLong, NotBuilt, Param, Outputs, Table, Snapshot, Restart, Differs, Expansion, MomRange, StepRange}
 use Rattle.gadget.specs.Decided.{IsDecided}
-use Rattle.gadget.specs.Reads.{Seen, WasRead, IsLong, NotRead}
-use Rattle.gadget.specs.Inputs.{NamesParams, ParamRefusal, GivesTimes, NamesTimes, ListRefusal, NamedListRefusal, asks_unbuilt, longest_list, longest_parameters}
-use Rattle.gadget.specs.Tables.{GivesTable, NamesTable, NamedTableRefusal, TableRefusal, longest_table}
-use Rattle.gadget.specs.Factors.{GivesFactors, NamesFactors, NamedFactorsRefusal, FactorsRefusal}
-use Rattle.gadget.specs.Snapshots.{NamesBodies, SnapshotRefusal, longest_snapshot}
-use Rattle.gadget.specs.Restarts.{NamesState, RestartRefusal, longest_restart}
+use Rattle.gadget.specs.Reads.{Seen, WasRead, FileSpells, IsLong, NotRead}
+use Rattle.gadget.specs.Inputs.{SpellsParams, IsBadParams, ParamRefusal, SpellsTimes, GivesTimes, ListRefusal, NamedListRefusal, asks_unbuilt, longest_list, longest_parameters}
+use Rattle.gadget.specs.Tables.{GivesTable, NamedTableRefusal, TableRefusal, longest_table}
+use Rattle.gadget.specs.Factors.{SpellsFactors, GivesFactors, NamedFactorsRefusal, FactorsRefusal}
+use Rattle.gadget.specs.Snapshots.{SnapshotRefusal, longest_snapshot}
+use Rattle.gadget.specs.Restarts.{SpellsState, RestartRefusal, longest_restart}
 use Rattle.gadget.proofs.Exact.{IsExact, Either, both_exact, mapped}
 use Rattle.gadget.proofs.OneParams.{params_exact}
 use Rattle.gadget.proofs.OneList.{IsNoList, list_exact}
 use Rattle.gadget.proofs.OneTable.{IsNoTable, table_exact, IsNoFactors, factors_exact}
 use Rattle.gadget.proofs.OneSnapshot.{IsNoSnapshot, snapshot_exact}
-use Rattle.gadget.proofs.OneRestart.{IsNoRestart, Keeps, restart_exact}
+use Rattle.gadget.proofs.OneRestart.{IsNoRestart, restart_exact}
 
 -- ---- any file
 
@@ -76,12 +69,7 @@ read_exact files name limit = record {
 abbrev pub FileRefuses : {F : Type 0} → Files → List ℕ → ℕ → (List ℕ → F → Type 0) → (F → Status) → Status → Type 0
 FileRefuses {F} files name limit Fault called = Either (NotThere files name limit) (WasRead files name limit) (λ bytes status. (e : F) × (status ≡ called e) × Fault bytes e)
 
-pub record FileGives {V : Type 0} (files : Files) (name : List ℕ) (limit : ℕ) (Spells : List ℕ → V → Type 0) (v : V) : Type 0 where
-  pub bytes : List ℕ
-  pub read : WasRead files name limit bytes
-  pub spelled : Spells bytes v
-
-pub file_exact : {F V : Type 0} (files : Files) (name : List ℕ) (limit : ℕ) (Fault : List ℕ → F → Type 0) (Spells : List ℕ → V → Type 0) (called : F → Status) → ((bytes : List ℕ) → IsExact (Fault bytes) (Spells bytes)) → IsExact (FileRefuses files name limit Fault called) (FileGives files name limit Spells)
+pub file_exact : {F V : Type 0} (files : Files) (name : List ℕ) (limit : ℕ) (Fault : List ℕ → F → Type 0) (Spells : List ℕ → V → Type 0) (called : F → Status) → ((bytes : List ℕ) → IsExact (Fault bytes) (Spells bytes)) → IsExact (FileRefuses files name limit Fault called) (FileSpells files name limit Spells)
 file_exact {F} {V} files name limit Fault Spells called h =
     let both = both_exact {V = List ℕ} {W = V} (NotThere files name limit) (WasRead files name limit) (λ bytes status. (e : F) × (status ≡ called e) × Fault bytes e) Spells (read_exact files name limit) (λ bytes. mapped (Fault bytes) (Spells bytes) called (h bytes)) in
     record {
@@ -115,14 +103,14 @@ not_read s name limit t (StepRange a b) d r = absurd r
 -- ---- the parameter file
 
 abbrev pub ParamsRefuse : Files → List ℕ → Status → Type 0
-ParamsRefuse files name = FileRefuses files name longest_parameters (λ bytes (e : ParamErr). IsParamFault (lines_in bytes) e.line e.kind) Param
+ParamsRefuse files name = FileRefuses files name longest_parameters IsBadParams Param
 
 -- the settings are read, and then they ask for what isn't built or don't
 abbrev pub Unbuilt : ParamsData → Status → Type 0
 Unbuilt p status = (status ≡ NotBuilt) × (asks_unbuilt p ≡ true)
 
-pub params_file : (files : Files) (name : List ℕ) → IsExact (ParamsRefuse files name) (FileGives files name longest_parameters (λ bytes. SpellParams (lines_in bytes)))
-params_file files name = file_exact files name longest_parameters (λ bytes (e : ParamErr). IsParamFault (lines_in bytes) e.line e.kind) (λ bytes. SpellParams (lines_in bytes)) Param (λ bytes. params_exact (lines_in bytes))
+pub params_file : (files : Files) (name : List ℕ) → IsExact (ParamsRefuse files name) (FileSpells files name longest_parameters SpellsParams)
+params_file files name = file_exact files name longest_parameters IsBadParams SpellsParams Param (λ bytes. params_exact (lines_in bytes))
 
 pub unbuilt_exact : (p : ParamsData) → IsExact (Unbuilt p) (λ (u : Unit {0}). asks_unbuilt p ≡ false)
 unbuilt_exact p = record {
@@ -134,11 +122,8 @@ unbuilt_exact p = record {
     no_both : (b : Bool) → b ≡ true → b ≡ false → ⊥
     no_both b e f = cc
 
-pub params_given : (files : Files) (name : List ℕ) (p : ParamsData) → NamesParams files name p → FileGives files name longest_parameters (λ bytes. SpellParams (lines_in bytes)) p
-params_given files name p n = record { bytes = n.bytes; read = n.read; spelled = n.spelled }
-
 abbrev pub ParamStage : Files → List ℕ → (ParamsData → Status → Type 0) → Status → Type 0
-ParamStage files name Next = Either (ParamsRefuse files name) (FileGives files name longest_parameters (λ bytes. SpellParams (lines_in bytes))) (λ p. Either (Unbuilt p) (λ (u : Unit {0}). asks_unbuilt p ≡ false) (λ u. Next p))
+ParamStage files name Next = Either (ParamsRefuse files name) (FileSpells files name longest_parameters SpellsParams) (λ p. Either (Unbuilt p) (λ (u : Unit {0}). asks_unbuilt p ≡ false) (λ u. Next p))
 
 pub params_refused : (s : Seen) (name : List ℕ) (Next : ParamsData → Status → Type 0) → IsTrue s.tells → (status : Status) → IsDecided status → ParamRefusal s name status → ParamStage s.files name Next status
 params_refused s name Next t Done d r = absurd r
@@ -150,8 +135,8 @@ params_refused s name Next t (WriteFault a) d r = absurd d
 params_refused s name Next t ConsoleFault d r = absurd d
 params_refused s name Next t (Absent a) d r = inl (inl (not_read s name longest_parameters t (Absent a) d r))
 params_refused s name Next t (TooLong a b) d r = inl (inl (not_read s name longest_parameters t (TooLong a b) d r))
-params_refused s name Next t NotBuilt d r = let f = r t in inr (f.params, params_given s.files name f.params f.named, inl (refl, f.unbuilt))
-params_refused s name Next t (Param a) d r = let f = r t in inl (inr (f.bytes, f.read, (a, refl, f.fault)))
+params_refused s name Next t NotBuilt d r = let f = r t in inr (f.params, f.named, inl (refl, f.unbuilt))
+params_refused s name Next t (Param a) d r = let f = r.1 t in inl (inr (f.bytes, f.read, (a, refl, f.fault)))
 params_refused s name Next t (Outputs a) d r = absurd r
 params_refused s name Next t (Table a) d r = absurd r
 params_refused s name Next t (Snapshot a) d r = absurd r
@@ -169,16 +154,7 @@ ListRefuses files (Some name) status = FileRefuses files name longest_list (λ b
 
 pub list_file : (files : Files) (o : Option (List ℕ)) → IsExact (ListRefuses files o) (GivesTimes files o)
 list_file files None = record { one_refusal = λ a b p q. absurd p; one_value = λ v w p q. p ∙ sym q; apart = λ a v p q. p }
-list_file files (Some name) =
-    let h = file_exact files name longest_list (λ bytes. IsNoList (lines_in bytes)) (λ bytes. SpellTimes (lines_in bytes)) Outputs (λ bytes. list_exact (lines_in bytes)) in
-    record {
-      one_refusal = h.one_refusal;
-      one_value = λ v w p q. h.one_value v w (given v p) (given w q);
-      apart = λ a v p q. h.apart a v p (given v q);
-    }
-  where
-    given : (v : List ℕ) → NamesTimes files name v → FileGives files name longest_list (λ bytes. SpellTimes (lines_in bytes)) v
-    given v n = record { bytes = n.bytes; read = n.read; spelled = n.spelled }
+list_file files (Some name) = file_exact files name longest_list (λ bytes. IsNoList (lines_in bytes)) SpellsTimes Outputs (λ bytes. list_exact (lines_in bytes))
 
 named_list_refused : (s : Seen) (name : List ℕ) → IsTrue s.tells → (status : Status) → IsDecided status → NamedListRefusal s name status → ListRefuses s.files (Some name) status
 named_list_refused s name t Done d r = absurd r
@@ -211,18 +187,15 @@ abbrev pub TableRefuses : Files → Option (List ℕ) → Status → Type 0
 TableRefuses files None status = ⊥
 TableRefuses files (Some name) status = FileRefuses files name longest_table IsNoTable Table status
 
-table_given : (files : Files) (name : List ℕ) (v : TableData) → NamesTable files name v → FileGives files name longest_table SpellTable v
-table_given files name v n = record { bytes = n.bytes; read = n.read; spelled = n.spelled }
-
 one_table : (files : Files) (name : List ℕ) (v w : Option TableData) → GivesTable files (Some name) v → GivesTable files (Some name) w → v ≡ w
 one_table files name None w p q = absurd p
 one_table files name (Some v) None p q = absurd q
 one_table files name (Some v) (Some w) p q =
-    ap Some ((file_exact files name longest_table IsNoTable SpellTable Table table_exact).one_value v w (table_given files name v p) (table_given files name w q))
+    ap Some ((file_exact files name longest_table IsNoTable SpellTable Table table_exact).one_value v w p q)
 
 no_table : (files : Files) (name : List ℕ) (a : Status) (v : Option TableData) → TableRefuses files (Some name) a → GivesTable files (Some name) v → ⊥
 no_table files name a None p q = q
-no_table files name a (Some v) p q = (file_exact files name longest_table IsNoTable SpellTable Table table_exact).apart a v p (table_given files name v q)
+no_table files name a (Some v) p q = (file_exact files name longest_table IsNoTable SpellTable Table table_exact).apart a v p q
 
 pub table_file : (files : Files) (o : Option (List ℕ)) → IsExact (TableRefuses files o) (GivesTable files o)
 table_file files None = record { one_refusal = λ a b p q. absurd p; one_value = λ v w p q. p ∙ sym q; apart = λ a v p q. p }
@@ -263,21 +236,18 @@ abbrev pub FactorsRefuse : Files → ℕ → Option (List ℕ) → Status → Ty
 FactorsRefuse files last None status = ⊥
 FactorsRefuse files last (Some name) status = FileRefuses files name longest_table (λ bytes. IsNoFactors bytes last) Expansion status
 
-factors_given : (files : Files) (last : ℕ) (name : List ℕ) (v : ExpansionData) → NamesFactors files last name v → FileGives files name longest_table (λ bytes. SpellFactors bytes last) v
-factors_given files last name v n = record { bytes = n.bytes; read = n.read; spelled = n.spelled }
-
-factors_read : (files : Files) (last : ℕ) (name : List ℕ) → IsExact (FactorsRefuse files last (Some name)) (FileGives files name longest_table (λ bytes. SpellFactors bytes last))
-factors_read files last name = file_exact files name longest_table (λ bytes. IsNoFactors bytes last) (λ bytes. SpellFactors bytes last) Expansion (λ bytes. factors_exact bytes last)
+factors_read : (files : Files) (last : ℕ) (name : List ℕ) → IsExact (FactorsRefuse files last (Some name)) (FileSpells files name longest_table (SpellsFactors last))
+factors_read files last name = file_exact files name longest_table (λ bytes. IsNoFactors bytes last) (SpellsFactors last) Expansion (λ bytes. factors_exact bytes last)
 
 one_factors : (files : Files) (last : ℕ) (name : List ℕ) (v w : Option ExpansionData) → GivesFactors files last (Some name) v → GivesFactors files last (Some name) w → v ≡ w
 one_factors files last name None w p q = absurd p
 one_factors files last name (Some v) None p q = absurd q
 one_factors files last name (Some v) (Some w) p q =
-    ap Some ((factors_read files last name).one_value v w (factors_given files last name v p) (factors_given files last name w q))
+    ap Some ((factors_read files last name).one_value v w p q)
 
 no_factors : (files : Files) (last : ℕ) (name : List ℕ) (a : Status) (v : Option ExpansionData) → FactorsRefuse files last (Some name) a → GivesFactors files last (Some name) v → ⊥
 no_factors files last name a None p q = q
-no_factors files last name a (Some v) p q = (factors_read files last name).apart a v p (factors_given files last name v q)
+no_factors files last name a (Some v) p q = (factors_read files last name).apart a v p q
 
 pub factors_file : (files : Files) (last : ℕ) (o : Option (List ℕ)) → IsExact (FactorsRefuse files last o) (GivesFactors files last o)
 factors_file files last None = record { one_refusal = λ a b p q. absurd p; one_value = λ v w p q. p ∙ sym q; apart = λ a v p q. p }
@@ -317,10 +287,7 @@ factors_refused s last (Some name) t status d r = named_factors_refused s last n
 abbrev pub SnapshotRefuses : Files → List ℕ → Status → Type 0
 SnapshotRefuses files name = FileRefuses files name longest_snapshot IsNoSnapshot Snapshot
 
-pub bodies_given : (files : Files) (name : List ℕ) (B : List BodyData) → NamesBodies files name B → FileGives files name longest_snapshot SpellsSnapshot B
-bodies_given files name B n = record { bytes = n.bytes; read = n.read; spelled = n.spelled }
-
-pub snapshot_file : (files : Files) (name : List ℕ) → IsExact (SnapshotRefuses files name) (FileGives files name longest_snapshot SpellsSnapshot)
+pub snapshot_file : (files : Files) (name : List ℕ) → IsExact (SnapshotRefuses files name) (FileSpells files name longest_snapshot SpellsSnapshot)
 snapshot_file files name = file_exact files name longest_snapshot IsNoSnapshot SpellsSnapshot Snapshot snapshot_exact
 
 pub snapshot_refused : (s : Seen) (name : List ℕ) → IsTrue s.tells → (status : Status) → IsDecided status → SnapshotRefusal s name status → SnapshotRefuses s.files name status
@@ -349,11 +316,8 @@ snapshot_refused s name t (StepRange a b) d r = absurd r
 abbrev pub RestartRefuses : Files → List ℕ → Status → Type 0
 RestartRefuses files name = FileRefuses files name longest_restart IsNoRestart Restart
 
-pub state_given : (files : Files) (name : List ℕ) (σ : StateData) (s : SetupData) → NamesState files name σ s → FileGives files name longest_restart Keeps (σ, s)
-state_given files name σ s n = record { bytes = n.bytes; read = n.read; spelled = n.spelled }
-
-pub restart_file : (files : Files) (name : List ℕ) → IsExact (RestartRefuses files name) (FileGives files name longest_restart Keeps)
-restart_file files name = file_exact files name longest_restart IsNoRestart Keeps Restart restart_exact
+pub restart_file : (files : Files) (name : List ℕ) → IsExact (RestartRefuses files name) (FileSpells files name longest_restart SpellsState)
+restart_file files name = file_exact files name longest_restart IsNoRestart SpellsState Restart restart_exact
 
 pub restart_refused : (s : Seen) (name : List ℕ) → IsTrue s.tells → (status : Status) → IsDecided status → RestartRefusal s name status → RestartRefuses s.files name status
 restart_refused s name t Done d r = absurd r

@@ -3,28 +3,25 @@ use Rattle.std.proofs.Common.{◌≡◌, ◌⊎◌, ℕ, Bool, true, false, not,
 use Rattle.std.specs.Prelude.{find, option_map}
 use Rattle.std.proofs.lemmas.Bool.Decides.{nat_tests}
 use Rattle.store_io.specs.Files.{Files}
-use Rattle.text_words.specs.Comments.{lines_in}
 use Rattle.nbody_model.specs.Bodies.{BodyData}
 use Rattle.nbody_model.specs.Setups.{SetupData, last_tick}
 use Rattle.nbody_model.specs.States.{StateData}
 use Rattle.nbody_model.specs.Tables.{TableData, ExpansionData}
 use Rattle.param_file.specs.Settings.{ParamsData, setup_of}
-use Rattle.param_file.specs.Reading.{Spell as SpellParams}
 use Rattle.snap_file.specs.Snapshots.{SpellsSnapshot}
 use Rattle.restart_files.specs.Differences.{Setting, differing, first_difference, rules, softenings}
 use Rattle.gadget.specs.declared.status.Status.{Status}
 use Rattle.gadget.specs.declared.status.Status.TheVariants.{Differs}
 use Rattle.gadget.specs.Decided.{IsDecided}
-use Rattle.gadget.specs.Reads.{Seen}
-use Rattle.gadget.specs.Inputs.{Accepts, FirstRefusal, GivesTimes, asks_unbuilt, longest_parameters}
+use Rattle.gadget.specs.Reads.{Seen, FileSpells}
+use Rattle.gadget.specs.Inputs.{InputsData, SpellsParams, Accepts, FirstRefusal, GivesTimes, asks_unbuilt, longest_parameters}
 use Rattle.gadget.specs.Tables.{GivesTable}
 use Rattle.gadget.specs.Factors.{GivesFactors}
 use Rattle.gadget.specs.Snapshots.{longest_snapshot}
-use Rattle.gadget.specs.Restarts.{DiffersIn, longest_restart}
+use Rattle.gadget.specs.Restarts.{SpellsState, DiffersIn, longest_restart}
 use Rattle.gadget.specs.Begins.{BeginsWith, GoesOnFrom, ResumeRefusal, RunRefusal}
 use Rattle.gadget.proofs.Exact.{IsExact, Either, Both, both_exact}
-use Rattle.gadget.proofs.OneRestart.{Keeps}
-use Rattle.gadget.proofs.OneFile.{FileGives, ParamStage, params_file, unbuilt_exact, params_given, params_refused, ListRefuses, list_file, list_refused, TableRefuses, table_file, table_refused, FactorsRefuse, factors_file, factors_refused, SnapshotRefuses, snapshot_file, snapshot_refused, bodies_given, RestartRefuses, restart_file, restart_refused, state_given}
+use Rattle.gadget.proofs.OneFile.{ParamStage, params_file, unbuilt_exact, params_refused, ListRefuses, list_file, list_refused, TableRefuses, table_file, table_refused, FactorsRefuse, factors_file, factors_refused, SnapshotRefuses, snapshot_file, snapshot_refused, RestartRefuses, restart_file, restart_refused}
 
 -- ---- the parameter file, the list and the tables, and what is read behind them
 
@@ -61,7 +58,7 @@ abbrev BuiltGives : {W : Type 0} → Files → Giving W → ParamsData → Unit 
 BuiltGives {W} files Gives p = Both (λ (u : Unit {0}). asks_unbuilt p ≡ false) (λ u. ListGives files Gives p)
 
 abbrev pub AllGiven : {W : Type 0} → Files → List ℕ → Giving W → ParamsData × (Unit {0} × (List ℕ × (Option TableData × (Option ExpansionData × W)))) → Type 0
-AllGiven {W} files name Gives = Both (FileGives files name longest_parameters (λ bytes. SpellParams (lines_in bytes))) (λ p. BuiltGives files Gives p)
+AllGiven {W} files name Gives = Both (FileSpells files name longest_parameters SpellsParams) (λ p. BuiltGives files Gives p)
 
 pub stages_exact : {W : Type 0} (files : Files) (name : List ℕ) (Next : Refusing) (Gives : Giving W) → ((p : ParamsData) (times : List ℕ) (table : Option TableData) (factors : Option ExpansionData) → IsExact (Next p times table factors) (Gives p times table factors)) → IsExact (Stages files name Next) (AllGiven files name Gives)
 stages_exact {W} files name Next Gives h =
@@ -73,26 +70,26 @@ stages_exact {W} files name Next Gives h =
     (λ factors. h p times table factors)))))
 
 -- what is refused behind inputs that are accepted
-pub behind : (files : Files) (name : List ℕ) (Next : Refusing) (p : ParamsData) (times : List ℕ) (table : Option TableData) (factors : Option ExpansionData) (status : Status) → Accepts files name p times table factors → Next p times table factors status → Stages files name Next status
-behind files name Next p times table factors status a n =
-    inr (p, params_given files name p a.params, inr (tt, a.built, inr (times, a.listed, inr (table, a.corrected, inr (factors, a.expanded, n)))))
+pub behind : (files : Files) (name : List ℕ) (Next : Refusing) (i : InputsData) (status : Status) → Accepts files name i → Next i.params i.times i.table i.factors status → Stages files name Next status
+behind files name Next i status a n =
+    inr (i.params, a.params, inr (tt, a.built, inr (i.times, a.listed, inr (i.table, a.corrected, inr (i.factors, a.expanded, n)))))
 
-pub all_given : {W : Type 0} (files : Files) (name : List ℕ) (Gives : Giving W) (p : ParamsData) (times : List ℕ) (table : Option TableData) (factors : Option ExpansionData) (w : W) → Accepts files name p times table factors → Gives p times table factors w → AllGiven files name Gives (p, (tt, (times, (table, (factors, w)))))
-all_given {W} files name Gives p times table factors w a g = (params_given files name p a.params, (a.built, (a.listed, (a.corrected, (a.expanded, g)))))
+pub all_given : {W : Type 0} (files : Files) (name : List ℕ) (Gives : Giving W) (i : InputsData) (w : W) → Accepts files name i → Gives i.params i.times i.table i.factors w → AllGiven files name Gives (i.params, (tt, (i.times, (i.table, (i.factors, w)))))
+all_given {W} files name Gives i w a g = (a.params, (a.built, (a.listed, (a.corrected, (a.expanded, g)))))
 
 pub first_refused : (s : Seen) (name : List ℕ) (Next : Refusing) → IsTrue s.tells → (status : Status) → IsDecided status → FirstRefusal s name status → Stages s.files name Next status
 first_refused s name Next t status d (inl r) = params_refused s name (λ p. ListStage s.files Next p) t status d r
 first_refused s name Next t status d (inr (inl r)) =
     let p = r.params in
-    inr (p, params_given s.files name p (r.named t), inr (tt, r.built, inl (list_refused s p.output_list_filename t status d r.refused)))
+    inr (p, r.named t, inr (tt, r.built, inl (list_refused s p.output_list_filename t status d r.refused)))
 first_refused s name Next t status d (inr (inr (inl r))) =
     let p = r.params in
-    inr (p, params_given s.files name p (r.named t), inr (tt, r.built, inr (r.times, r.listed t, inl (table_refused s p.ewald_table_file t status d r.refused))))
+    inr (p, r.named t, inr (tt, r.built, inr (r.times, r.listed t, inl (table_refused s p.ewald_table_file t status d r.refused))))
 first_refused s name Next t status d (inr (inr (inr r))) =
     let p = r.params in
     inr (
       p,
-      params_given s.files name p (r.named t),
+      r.named t,
       inr (
         tt,
         r.built,
@@ -114,13 +111,16 @@ abbrev NoBodies : Files → Refusing
 NoBodies files p times table factors = SnapshotRefuses files p.init_cond_file
 
 abbrev GivesBodies : Files → Giving (List BodyData)
-GivesBodies files p times table factors = FileGives files p.init_cond_file longest_snapshot SpellsSnapshot
+GivesBodies files p times table factors = FileSpells files p.init_cond_file longest_snapshot SpellsSnapshot
 
 abbrev pub RunStages : Files → List ℕ → Status → Type 0
 RunStages files name = Stages files name (NoBodies files)
 
 abbrev pub RunValue : Type 0
 RunValue = ParamsData × (Unit {0} × (List ℕ × (Option TableData × (Option ExpansionData × List BodyData))))
+
+abbrev pub run_value : InputsData → List BodyData → RunValue
+run_value i B = (i.params, (tt, (i.times, (i.table, (i.factors, B)))))
 
 abbrev pub RunGiven : Files → List ℕ → RunValue → Type 0
 RunGiven files name = AllGiven files name (GivesBodies files)
@@ -131,11 +131,10 @@ run_exact files name = stages_exact files name (NoBodies files) (GivesBodies fil
 pub run_refused : (s : Seen) (name : List ℕ) → IsTrue s.tells → (status : Status) → IsDecided status → RunRefusal s name status → RunStages s.files name status
 run_refused s name t status d (inl r) = first_refused s name (NoBodies s.files) t status d r
 run_refused s name t status d (inr r) =
-    behind s.files name (NoBodies s.files) r.params r.times r.table r.factors status (r.accepted t) (snapshot_refused s r.params.init_cond_file t status d r.refused)
+    behind s.files name (NoBodies s.files) r.inputs status (r.accepted t) (snapshot_refused s r.inputs.params.init_cond_file t status d r.refused)
 
-pub run_given : (files : Files) (name : List ℕ) (p : ParamsData) (times : List ℕ) (table : Option TableData) (factors : Option ExpansionData) (B : List BodyData) → BeginsWith files name p times table factors B → RunGiven files name (p, (tt, (times, (table, (factors, B)))))
-run_given files name p times table factors B b =
-    all_given files name (GivesBodies files) p times table factors B b.accepted (bodies_given files p.init_cond_file B b.bodies)
+pub run_given : (files : Files) (name : List ℕ) (i : InputsData) (B : List BodyData) → BeginsWith files name i B → RunGiven files name (run_value i B)
+run_given files name i B b = all_given files name (GivesBodies files) i B b.accepted b.bodies
 
 -- ---- a run that is resumed
 
@@ -161,16 +160,19 @@ settings_exact s now = record {
 }
 
 abbrev NoState : Files → List ℕ → Refusing
-NoState files restart p times table factors = Either (RestartRefuses files restart) (FileGives files restart longest_restart Keeps) (λ x. DiffersIn x.1 (setup_of p))
+NoState files restart p times table factors = Either (RestartRefuses files restart) (FileSpells files restart longest_restart SpellsState) (λ x. DiffersIn x.1 (setup_of p))
 
 abbrev GivesState : Files → List ℕ → Giving ((StateData × SetupData) × Unit {0})
-GivesState files restart p times table factors = Both (FileGives files restart longest_restart Keeps) (λ x u. x.1 ≡ setup_of p)
+GivesState files restart p times table factors = Both (FileSpells files restart longest_restart SpellsState) (λ x u. x.1 ≡ setup_of p)
 
 abbrev pub ResumeStages : Files → List ℕ → List ℕ → Status → Type 0
 ResumeStages files name restart = Stages files name (NoState files restart)
 
 abbrev pub ResumeValue : Type 0
 ResumeValue = ParamsData × (Unit {0} × (List ℕ × (Option TableData × (Option ExpansionData × ((StateData × SetupData) × Unit {0})))))
+
+abbrev pub resume_value : InputsData → StateData → ResumeValue
+resume_value i σ = (i.params, (tt, (i.times, (i.table, (i.factors, ((σ, setup_of i.params), tt))))))
 
 abbrev pub ResumeGiven : Files → List ℕ → List ℕ → ResumeValue → Type 0
 ResumeGiven files name restart = AllGiven files name (GivesState files restart)
@@ -183,11 +185,9 @@ resume_exact files name restart =
 pub resume_refused : (s : Seen) (name restart : List ℕ) → IsTrue s.tells → (status : Status) → IsDecided status → ResumeRefusal s name restart status → ResumeStages s.files name restart status
 resume_refused s name restart t status d (inl r) = first_refused s name (NoState s.files restart) t status d r
 resume_refused s name restart t status d (inr (inl r)) =
-    behind s.files name (NoState s.files restart) r.params r.times r.table r.factors status (r.accepted t) (inl (restart_refused s restart t status d r.refused))
+    behind s.files name (NoState s.files restart) r.inputs status (r.accepted t) (inl (restart_refused s restart t status d r.refused))
 resume_refused s name restart t status d (inr (inr r)) =
-    behind s.files name (NoState s.files restart) r.params r.times r.table r.factors status (r.accepted t)
-    (inr ((r.state, r.setup), state_given s.files restart r.state r.setup (r.kept t), r.refused))
+    behind s.files name (NoState s.files restart) r.inputs status (r.accepted t) (inr ((r.state, r.setup), r.kept t, r.refused))
 
-pub resume_given : (files : Files) (name restart : List ℕ) (p : ParamsData) (times : List ℕ) (table : Option TableData) (factors : Option ExpansionData) (σ : StateData) → GoesOnFrom files name restart p times table factors σ → ResumeGiven files name restart (p, (tt, (times, (table, (factors, ((σ, setup_of p), tt))))))
-resume_given files name restart p times table factors σ b =
-    all_given files name (GivesState files restart) p times table factors ((σ, setup_of p), tt) b.accepted (state_given files restart σ (setup_of p) b.state, refl)
+pub resume_given : (files : Files) (name restart : List ℕ) (i : InputsData) (σ : StateData) → GoesOnFrom files name restart i σ → ResumeGiven files name restart (resume_value i σ)
+resume_given files name restart i σ b = all_given files name (GivesState files restart) i ((σ, setup_of i.params), tt) b.accepted (b.state, refl)

@@ -9,6 +9,7 @@ use Rattle.restart_files.specs.declared.errors.RestartErr.TheVariants.{Tag, Leng
 use Rattle.restart_files.specs.Exact.{IsWantOfMemory}
 use Rattle.restart_files.specs.RestartFile.{IsFirstFault, Spell, first_fault, rows_in}
 use Rattle.restart_files.proofs.OneReading.{reads_one_way}
+use Rattle.gadget.specs.Restarts.{SpellsState}
 use Rattle.gadget.proofs.Exact.{IsExact, Either, OneWay, either_one, check_exact, mapped}
 use Rattle.gadget.proofs.OneRefusal.{IsRefused, rows_exact}
 
@@ -35,11 +36,7 @@ pub record IsNoRestart (bytes : List ℕ) (e : RestartErr) : Type 0 where
   pub plain : IsWantOfMemory e → ⊥
   pub fault : IsFirstFault bytes e
 
--- the bytes keep this state, by these settings
-abbrev pub Keeps : List ℕ → StateData × SetupData → Type 0
-Keeps bytes x = Spell bytes x.0 x.1
-
-pub restart_exact : (bytes : List ℕ) → IsExact (IsNoRestart bytes) (Keeps bytes)
+pub restart_exact : (bytes : List ℕ) → IsExact (IsNoRestart bytes) (SpellsState bytes)
 restart_exact bytes = record {
   one_refusal = λ a b p q. faults_one bytes a b (is_fault bytes a p.plain p.fault) (is_fault bytes b q.plain q.fault);
   one_value = λ x y p q.

@@ -1,22 +1,27 @@
 -- When each answer may be given, what it leaves, and what is printed.
 use Rattle.std.specs.Prelude.{◌≡◌, ◌≢◌, ◌⊎◌, ℕ, Bool, true, false, IsTrue, List, [], Option}
-use Rattle.store_io.specs.Causes.{Call, Rose}
+use Rattle.store_io.specs.Causes.{Rose}
 use Rattle.store_io.specs.Files.{Files}
 use Rattle.store_io.specs.Sinks.{Follows, FollowsPart}
+use Rattle.store_io.specs.declared.store.Store as store
+use Rattle.store_io.specs.declared.stopper.Stopper as stopper
+use Rattle.store_io.specs.declared.sink.Sink as sink
 use Rattle.nbody_model.specs.Bodies.{BodyData}
 use Rattle.nbody_model.specs.Setups.{SetupData}
 use Rattle.nbody_model.specs.States.{StateData}
-use Rattle.nbody_model.specs.Tables.{Gravity, TableData, ExpansionData}
-use Rattle.param_file.specs.Settings.{ParamsData, setup_of}
+use Rattle.nbody_model.specs.Tables.{Gravity}
+use Rattle.param_file.specs.Settings.{setup_of}
 use Rattle.force_field.specs.Lists.{quiet}
 use Rattle.run_session.specs.declared.ended.Ended.{Ended}
 use Rattle.run_session.specs.RunEnds.{World, RunEnds}
+use Rattle.run_session.specs.Spans.{world_by}
 use Rattle.gadget.specs.declared.status.Status.{Status}
 use Rattle.gadget.specs.declared.status.Status.TheVariants.{Usage, Memory, ConsoleFault, NotBuilt}
 use Rattle.gadget.specs.declared.outcome.Outcome.{Outcome}
 use Rattle.gadget.specs.declared.outcome.Outcome.TheVariants.{Ran, Checked, Shown, Refused}
 use Rattle.gadget.specs.Commands.{Asked, nothing, unbuilt, run, resume, check, show}
 use Rattle.gadget.specs.Reads.{Seen}
+use Rattle.gadget.specs.Inputs.{InputsData}
 use Rattle.gadget.specs.Snapshots.{NamesSnapshot, SnapshotRefusal}
 use Rattle.gadget.specs.Begins.{BeginsWith, RunRefusal, GoesOnFrom, GoesOnAsKept, ResumeRefusal, first_state, plan_by}
 use Rattle.gadget.specs.Outcomes.{status_of, text_of}
@@ -24,9 +29,17 @@ use Rattle.gadget.specs.Outcomes.{status_of, text_of}
 -- ---- what is told before and after
 
 -- of a store and of who may stop a run; forces by the list of bodies have no state
-abbrev pub world : Files → List (List ℕ) → ℕ → Option Call → ℕ → Option ℕ → World
-world files closed faults last yeses left =
-    record { files = files; closed = closed; faults = faults; last = last; state = []; yes = yeses; left = left }
+abbrev pub world : {X Y : Type 0} → store.Ghosts X → stopper.Ghosts Y → X → Y → World
+world S Q x y = world_by S Q x y []
+
+-- both, before and after a call
+pub record Edge : Type 0 where
+  pub tells : Bool
+  pub old : World
+  pub new : World
+
+abbrev pub edge_by : {X Y : Type 0} → store.Ghosts X → stopper.Ghosts Y → X → Y → X → Y → Edge
+edge_by S Q old stop_old new stop_new = record { tells = S.tells old; old = world S Q old stop_old; new = world S Q new stop_new }
 
 -- of a store, as far as reading goes
 abbrev pub seen : Bool → World → World → Seen
@@ -36,6 +49,9 @@ seen told A Z = record { tells = told; files = A.files; faults = A.faults; fault
 pub record Console : Type 0 where
   pub written : Option (List ℕ)
   pub faults : ℕ
+
+abbrev pub console : {X : Type 0} → sink.Ghosts X → X → Console
+console O out = record { written = O.written out; faults = O.faults out }
 
 -- no file changed, none was finished, and nobody was asked whether to stop
 pub record Untouched (A Z : World) : Type 0 where
@@ -47,34 +63,32 @@ pub record Untouched (A Z : World) : Type 0 where
 -- ---- a run, and one that is resumed
 
 -- how a run by these inputs ends, resumed or not, against the session of the model
-abbrev pub SessionEnds : Bool → Bool → World → World → ParamsData → List ℕ → Option TableData → Option ExpansionData → StateData → Ended → Type 0
-SessionEnds resumed told A Z p times table factors σ ended =
-    let g : Gravity = record { setup = setup_of p; table = table } in
-    RunEnds (plan_by p times table factors) p resumed σ (quiet g []) told A Z ended
+abbrev pub SessionEnds : Bool → Bool → World → World → InputsData → StateData → Ended → Type 0
+SessionEnds resumed told A Z i σ ended =
+    let g : Gravity = record { setup = setup_of i.params; table = i.table } in
+    RunEnds (plan_by i) i.params resumed σ (quiet g []) told A Z ended
+
+-- the same, by what is told before and after
+abbrev pub SessionEndsBy : Bool → Edge → InputsData → StateData → Ended → Type 0
+SessionEndsBy resumed e i σ ended = SessionEnds resumed e.tells e.old e.new i σ ended
 
 -- the inputs of a run are accepted, and from tick 0 it came to this end
 pub record IsRun (told : Bool) (A Z : World) (name : List ℕ) (ended : Ended) (s : SetupData) : Type 0 where
-  pub params : ParamsData
-  pub times : List ℕ
-  pub table : Option TableData
-  pub factors : Option ExpansionData
+  pub inputs : InputsData
   pub bodies : List BodyData
-  pub accepted : IsTrue told → BeginsWith A.files name params times table factors bodies
-  pub ends : SessionEnds false told A Z params times table factors (first_state bodies) ended
-  pub setup : s ≡ setup_of params
+  pub accepted : IsTrue told → BeginsWith A.files name inputs bodies
+  pub ends : SessionEnds false told A Z inputs (first_state bodies) ended
+  pub setup : s ≡ setup_of inputs.params
 
 -- the inputs of a run that is resumed are accepted, and from the state of the restart file it came to this end; its session
 -- goes on exactly as any run from tick 0 that kept the file
 pub record IsResumed (told : Bool) (A Z : World) (name restart : List ℕ) (ended : Ended) (s : SetupData) : Type 0 where
-  pub params : ParamsData
-  pub times : List ℕ
-  pub table : Option TableData
-  pub factors : Option ExpansionData
+  pub inputs : InputsData
   pub state : StateData
-  pub accepted : IsTrue told → GoesOnFrom A.files name restart params times table factors state
-  pub goes_on : IsTrue told → GoesOnAsKept A.files restart (plan_by params times table factors) state
-  pub ends : SessionEnds true told A Z params times table factors state ended
-  pub setup : s ≡ setup_of params
+  pub accepted : IsTrue told → GoesOnFrom A.files name restart inputs state
+  pub goes_on : IsTrue told → GoesOnAsKept A.files restart (plan_by inputs) state
+  pub ends : SessionEnds true told A Z inputs state ended
+  pub setup : s ≡ setup_of inputs.params
 
 -- either is refused by its inputs, before any file changes, or it runs
 abbrev pub RunDoes : Bool → World → World → List ℕ → Outcome → Type 0
@@ -93,20 +107,18 @@ ResumeDoes told A Z name restart (Shown head B) = ⊥
 
 -- the inputs of a run by this parameter file are accepted, and it would begin with these bodies
 pub record WouldBegin (files : Files) (name : List ℕ) (B : List BodyData) : Type 0 where
-  pub params : ParamsData
-  pub times : List ℕ
-  pub table : Option TableData
-  pub factors : Option ExpansionData
-  pub accepted : BeginsWith files name params times table factors B
+  pub inputs : InputsData
+  pub accepted : BeginsWith files name inputs B
 
+-- what may be refused or done, where done means that no call failed
 abbrev pub CheckDoes : Seen → List ℕ → Outcome → Type 0
-CheckDoes s name (Checked B) = IsTrue s.tells → WouldBegin s.files name B
+CheckDoes s name (Checked B) = (s.faults_new ≡ s.faults) × (IsTrue s.tells → WouldBegin s.files name B)
 CheckDoes s name (Refused status) = RunRefusal s name status
 CheckDoes s name (Ran ended setup) = ⊥
 CheckDoes s name (Shown head B) = ⊥
 
 abbrev pub ShowDoes : Seen → List ℕ → Outcome → Type 0
-ShowDoes s name (Shown head B) = IsTrue s.tells → NamesSnapshot s.files name head B
+ShowDoes s name (Shown head B) = (s.faults_new ≡ s.faults) × (IsTrue s.tells → NamesSnapshot s.files name head B)
 ShowDoes s name (Refused status) = SnapshotRefusal s name status
 ShowDoes s name (Ran ended setup) = ⊥
 ShowDoes s name (Checked B) = ⊥
@@ -132,16 +144,26 @@ Does (show name) told A Z outcome = ShowDoes (seen told A Z) name outcome × Unt
 
 -- ---- what is printed
 
--- the lines were printed, and the answer is the status; or the sink failed, and a first part of them was printed; or memory
--- was wanting
+-- the lines were printed, no write failed, and the answer is the status
+pub record IsPrinted (status : Status) (lines : List ℕ) (old new : Console) (answer : Status) : Type 0 where
+  pub is : answer ≡ status
+  pub printed : Follows old.written new.written lines
+  pub quiet : new.faults ≡ old.faults
+
+-- the sink failed, and a first part of the lines was printed
+pub record IsBrokenLine (lines : List ℕ) (old new : Console) (answer : Status) : Type 0 where
+  pub is : answer ≡ ConsoleFault
+  pub rose : Rose old.faults new.faults
+  pub printed : FollowsPart old.written new.written lines
+
+-- one of these, or memory was wanting
 abbrev pub Prints : Status → List ℕ → Console → Console → Status → Type 0
-Prints status lines C D answer =
-    ((answer ≡ status) × Follows C.written D.written lines) ⊎ (((answer ≡ ConsoleFault) × Rose C.faults D.faults × FollowsPart C.written D.written lines) ⊎ (answer ≡ Memory))
+Prints status lines old new answer = IsPrinted status lines old new answer ⊎ (IsBrokenLine lines old new answer ⊎ (answer ≡ Memory))
 
 -- ---- the top call
 
 -- how it ends: the command that the words ask for came to an outcome, whose lines are printed and whose status is the answer
-pub record Ends (asked : Asked) (told : Bool) (A Z : World) (C D : Console) (answer : Status) : Type 0 where
+pub record Ends (asked : Asked) (e : Edge) (old new : Console) (answer : Status) : Type 0 where
   pub outcome : Outcome
-  pub does : Does asked told A Z outcome
-  pub prints : Prints (status_of outcome) (text_of outcome) C D answer
+  pub does : Does asked e.tells e.old e.new outcome
+  pub prints : Prints (status_of outcome) (text_of outcome) old new answer

@@ -7,14 +7,19 @@ use Rattle.expansion_table.specs.declared.errors.ExpErr.{ExpErr}
 use Rattle.expansion_table.specs.declared.errors.ExpErr.TheVariants.{Memory as NoRoom}
 use Rattle.gadget.specs.declared.status.Status.{Status}
 use Rattle.gadget.specs.declared.status.Status.TheVariants.{Memory, Expansion}
-use Rattle.gadget.specs.Reads.{Seen, WasRead, NotRead}
+use Rattle.gadget.specs.Reads.{Seen, NotRead, FileSpells, FileHasFault, IfNamed}
 use Rattle.gadget.specs.Tables.{longest_table}
 
+-- bytes spell a table for a run up to a last tick, or this is their first fault
+abbrev pub SpellsFactors : ℕ → List ℕ → ExpansionData → Type 0
+SpellsFactors last bytes t = Spell bytes last t
+
+abbrev pub IsBadFactors : ℕ → List ℕ → ExpErr → Type 0
+IsBadFactors last bytes err = IsFirstFault bytes last err
+
 -- the file of this name spells this table, for a run up to a last tick
-pub record NamesFactors (files : Files) (last : ℕ) (name : List ℕ) (t : ExpansionData) : Type 0 where
-  pub bytes : List ℕ
-  pub read : WasRead files name longest_table bytes
-  pub spelled : Spell bytes last t
+abbrev pub NamesFactors : Files → ℕ → List ℕ → ExpansionData → Type 0
+NamesFactors files last name t = FileSpells files name longest_table (SpellsFactors last) t
 
 -- the table of a file that may be named, none where it isn't
 abbrev pub GivesFactors : Files → ℕ → Option (List ℕ) → Option ExpansionData → Type 0
@@ -23,10 +28,8 @@ GivesFactors files last (Some name) None = ⊥
 GivesFactors files last (Some name) (Some t) = NamesFactors files last name t
 
 -- the file of this name spells no table, and this is its first fault
-pub record HasFactorsFault (files : Files) (last : ℕ) (name : List ℕ) (err : ExpErr) : Type 0 where
-  pub bytes : List ℕ
-  pub read : WasRead files name longest_table bytes
-  pub fault : IsFirstFault bytes last err
+abbrev pub HasFactorsFault : Files → ℕ → List ℕ → ExpErr → Type 0
+HasFactorsFault files last name err = FileHasFault files name longest_table (IsBadFactors last) err
 
 -- why a table of this name isn't accepted; want of memory is no error of the file
 abbrev pub NamedFactorsRefusal : Seen → ℕ → List ℕ → Status → Type 0
@@ -35,8 +38,7 @@ NamedFactorsRefusal s last name status = NotRead s name longest_table status
 
 -- why the table that may be named isn't accepted
 abbrev pub FactorsRefusal : Seen → ℕ → Option (List ℕ) → Status → Type 0
-FactorsRefusal s last None status = ⊥
-FactorsRefusal s last (Some name) status = NamedFactorsRefusal s last name status
+FactorsRefusal s last named status = IfNamed named (λ name. NamedFactorsRefusal s last name status)
 
 -- the answers of the reader alone
 abbrev pub FactorsAnswer : List ℕ → ℕ → Status → Type 0

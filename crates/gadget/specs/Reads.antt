@@ -25,6 +25,23 @@ pub record WasRead (files : Files) (name : List ℕ) (limit : ℕ) (bytes : List
   pub stands : files name ≡ Some bytes
   pub short : length bytes ≤ limit
 
+-- the file of a name is read within a limit, and its bytes spell this value
+pub record FileSpells {V : Type 0} (files : Files) (name : List ℕ) (limit : ℕ) (Spells : List ℕ → V → Type 0) (v : V) : Type 0 where
+  pub bytes : List ℕ
+  pub read : WasRead files name limit bytes
+  pub spelled : Spells bytes v
+
+-- the file of a name is read within a limit, and this is what is wrong with its bytes
+pub record FileHasFault {E : Type 0} (files : Files) (name : List ℕ) (limit : ℕ) (IsFault : List ℕ → E → Type 0) (err : E) : Type 0 where
+  pub bytes : List ℕ
+  pub read : WasRead files name limit bytes
+  pub fault : IsFault bytes err
+
+-- of a file that may be named: it is named, and this holds of the name
+abbrev pub IfNamed : Option (List ℕ) → (List ℕ → Type 0) → Type 0
+IfNamed None P = ⊥
+IfNamed (Some name) P = P name
+
 -- a file of this name stands, and is longer than the limit
 pub record IsLong (files : Files) (name : List ℕ) (limit len : ℕ) : Type 0 where
   pub bytes : List ℕ

@@ -10,23 +10,23 @@ use Rattle.restart_files.specs.Differences.{first_difference}
 use Rattle.restart_files.specs.declared.errors.RestartErr.{RestartErr}
 use Rattle.gadget.specs.declared.status.Status.{Status}
 use Rattle.gadget.specs.declared.status.Status.TheVariants.{Memory, Restart, Differs}
-use Rattle.gadget.specs.Reads.{Seen, WasRead, NotRead}
+use Rattle.gadget.specs.Reads.{Seen, NotRead, FileSpells, FileHasFault}
 
 -- the longest restart file, in bytes
 abbrev pub longest_restart : ℕ
 longest_restart = 268435456
 
+-- bytes spell a state and the settings by which it was kept
+abbrev pub SpellsState : List ℕ → StateData × SetupData → Type 0
+SpellsState bytes kept = Spell bytes kept.0 kept.1
+
 -- the file of this name keeps this state, by these settings
-pub record NamesState (files : Files) (name : List ℕ) (σ : StateData) (s : SetupData) : Type 0 where
-  pub bytes : List ℕ
-  pub read : WasRead files name longest_restart bytes
-  pub spelled : Spell bytes σ s
+abbrev pub NamesState : Files → List ℕ → StateData → SetupData → Type 0
+NamesState files name σ s = FileSpells files name longest_restart SpellsState (σ, s)
 
 -- the file of this name keeps no state, and this is its first fault
-pub record HasRestartFault (files : Files) (name : List ℕ) (err : RestartErr) : Type 0 where
-  pub bytes : List ℕ
-  pub read : WasRead files name longest_restart bytes
-  pub fault : IsFirstFault bytes err
+abbrev pub HasRestartFault : Files → List ℕ → RestartErr → Type 0
+HasRestartFault files name err = FileHasFault files name longest_restart IsFirstFault err
 
 -- why a restart file isn't accepted; want of memory is no error of the file
 abbrev pub RestartRefusal : Seen → List ℕ → Status → Type 0

@@ -8,23 +8,19 @@ use Rattle.snap_file.specs.declared.head.Head.{Head}
 use Rattle.snap_file.specs.declared.errors.SnapErr.{SnapErr}
 use Rattle.gadget.specs.declared.status.Status.{Status}
 use Rattle.gadget.specs.declared.status.Status.TheVariants.{Memory, Snapshot}
-use Rattle.gadget.specs.Reads.{Seen, WasRead, NotRead}
+use Rattle.gadget.specs.Reads.{Seen, WasRead, NotRead, FileSpells, FileHasFault}
 
 -- the longest snapshot, in bytes
 abbrev pub longest_snapshot : ℕ
 longest_snapshot = 268435456
 
 -- the file of this name is a snapshot of these bodies
-pub record NamesBodies (files : Files) (name : List ℕ) (B : List BodyData) : Type 0 where
-  pub bytes : List ℕ
-  pub read : WasRead files name longest_snapshot bytes
-  pub spelled : SpellsSnapshot bytes B
+abbrev pub NamesBodies : Files → List ℕ → List BodyData → Type 0
+NamesBodies files name B = FileSpells files name longest_snapshot SpellsSnapshot B
 
 -- the file of this name is no snapshot, and this is its first fault
-pub record HasSnapshotFault (files : Files) (name : List ℕ) (err : SnapErr) : Type 0 where
-  pub bytes : List ℕ
-  pub read : WasRead files name longest_snapshot bytes
-  pub fault : IsSnapshotFault bytes err
+abbrev pub HasSnapshotFault : Files → List ℕ → SnapErr → Type 0
+HasSnapshotFault files name err = FileHasFault files name longest_snapshot IsSnapshotFault err
 
 -- the file of this name is a snapshot of these bodies with this head
 pub record NamesSnapshot (files : Files) (name : List ℕ) (head : Head) (B : List BodyData) : Type 0 where

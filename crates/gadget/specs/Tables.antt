@@ -7,17 +7,15 @@ use Rattle.ewald_table.specs.declared.errors.TableErr.{TableErr}
 use Rattle.ewald_table.specs.declared.errors.TableErr.TheVariants.{Memory as NoRoom}
 use Rattle.gadget.specs.declared.status.Status.{Status}
 use Rattle.gadget.specs.declared.status.Status.TheVariants.{Memory, Table}
-use Rattle.gadget.specs.Reads.{Seen, WasRead, NotRead}
+use Rattle.gadget.specs.Reads.{Seen, NotRead, FileSpells, FileHasFault, IfNamed}
 
 -- the longest tables, in bytes
 abbrev pub longest_table : ℕ
 longest_table = 4194304
 
 -- the file of this name spells this table
-pub record NamesTable (files : Files) (name : List ℕ) (t : TableData) : Type 0 where
-  pub bytes : List ℕ
-  pub read : WasRead files name longest_table bytes
-  pub spelled : Spell bytes t
+abbrev pub NamesTable : Files → List ℕ → TableData → Type 0
+NamesTable files name t = FileSpells files name longest_table Spell t
 
 -- the table of a file that may be named, none where it isn't
 abbrev pub GivesTable : Files → Option (List ℕ) → Option TableData → Type 0
@@ -26,10 +24,8 @@ GivesTable files (Some name) None = ⊥
 GivesTable files (Some name) (Some t) = NamesTable files name t
 
 -- the file of this name spells no table, and this is its first fault
-pub record HasTableFault (files : Files) (name : List ℕ) (err : TableErr) : Type 0 where
-  pub bytes : List ℕ
-  pub read : WasRead files name longest_table bytes
-  pub fault : IsFirstFault bytes err
+abbrev pub HasTableFault : Files → List ℕ → TableErr → Type 0
+HasTableFault files name err = FileHasFault files name longest_table IsFirstFault err
 
 -- why a table of this name isn't accepted; want of memory is no error of the file
 abbrev pub NamedTableRefusal : Seen → List ℕ → Status → Type 0
@@ -38,8 +34,7 @@ NamedTableRefusal s name status = NotRead s name longest_table status
 
 -- why the table that may be named isn't accepted
 abbrev pub TableRefusal : Seen → Option (List ℕ) → Status → Type 0
-TableRefusal s None status = ⊥
-TableRefusal s (Some name) status = NamedTableRefusal s name status
+TableRefusal s named status = IfNamed named (λ name. NamedTableRefusal s name status)
 
 -- the answers of the reader alone
 abbrev pub TableAnswer : List ℕ → Status → Type 0

@@ -4,10 +4,12 @@ ghost use Rattle.nbody_model.specs.Setups.{last_tick};
 ghost use Rattle.nbody_model.specs.Tables.{IsTable, Reaches};
 ghost use Rattle.param_file.specs.Settings.{setup_of};
 ghost use Rattle.restart_files.specs.Stored.{IsKept};
-ghost use Rattle.gadget.specs.Reads.{Seen};
+ghost use Rattle.store_io.specs.Told.{IsQuiet, KeepsFiles, Tells};
+ghost use Rattle.gadget.specs.Reads.{seen_by};
+ghost use Rattle.gadget.specs.Inputs.{inputs_of};
 ghost use Rattle.gadget.specs.Begins.{BeginsWith, GoesOnFrom, ResumeRefusal, RunRefusal};
 
-use crate::inputs::{Basis, load_basis};
+use crate::inputs::{Inputs, load_inputs};
 use crate::restarts::{check_settings, load_restart};
 use crate::snapshots::load_bodies;
 use crate::status::Status;
@@ -21,29 +23,20 @@ pub fn load_run<S: Store>(
     alloc: Global,
     store: &mut S,
     name: &Text,
-) -> Result<(Basis, BodySet), Status>
-    ensures tells { S.tells store.new ≡ S.tells store.old }
-    ensures files { S.file store.new ≡ S.file store.old }
-    ensures closed { S.closed store.new ≡ S.closed store.old }
-    ensures ok { IfOk result (λ r. IsTrue (S.tells store.old)
-        → BeginsWith (S.file store.old) name.now r.0.params r.0.outputs.items r.0.table r.0.factors r.1) }
+) -> Result<(Inputs, BodySet), Status>
+    ensures keeps { KeepsFiles S.Store store.old store.new }
+    ensures ok { IfOk result (λ r. Tells S.Store store.old → BeginsWith (S.file store.old) name.now (inputs_of r.0) r.1) }
     ensures sound { IfOk result (λ r. IfSome r.0.table IsTable) }
     ensures reach { IfOk result (λ r. IfSome r.0.factors (λ e. Reaches e (last_tick (setup_of r.0.params)))) }
-    ensures quiet { OnOk result ((S.faults store.new ≡ S.faults store.old) × (S.last store.new ≡ S.last store.old)) }
-    ensures err { IfErr result (RunRefusal (record {
-      tells = S.tells store.old;
-      files = S.file store.old;
-      faults = S.faults store.old;
-      faults_new = S.faults store.new;
-      last = S.last store.new;
-    }) name.now) }
+    ensures quiet { OnOk result (IsQuiet S.Store store.old store.new) }
+    ensures err { IfErr result (RunRefusal (seen_by S.Store store.old store.new) name.now) }
 {
-    let basis = match load_basis(alloc, store, name) {
-        Ok(basis) => basis,
+    let inputs = match load_inputs(alloc, store, name) {
+        Ok(inputs) => inputs,
         Err(status) => return Err(status),
     };
-    match load_bodies(alloc, store, &basis.params) {
-        Ok(set) => Ok((basis, set)),
+    match load_bodies(alloc, store, &inputs.params) {
+        Ok(set) => Ok((inputs, set)),
         Err(status) => Err(status),
     }
 }
@@ -55,34 +48,25 @@ pub fn load_resume<S: Store>(
     store: &mut S,
     name: &Text,
     restart: &Text,
-) -> Result<(Basis, State), Status>
-    ensures tells { S.tells store.new ≡ S.tells store.old }
-    ensures files { S.file store.new ≡ S.file store.old }
-    ensures closed { S.closed store.new ≡ S.closed store.old }
-    ensures ok { IfOk result (λ r. IsTrue (S.tells store.old)
-        → GoesOnFrom (S.file store.old) name.now restart.now r.0.params r.0.outputs.items r.0.table r.0.factors r.1) }
+) -> Result<(Inputs, State), Status>
+    ensures keeps { KeepsFiles S.Store store.old store.new }
+    ensures ok { IfOk result (λ r. Tells S.Store store.old → GoesOnFrom (S.file store.old) name.now restart.now (inputs_of r.0) r.1) }
     ensures sound { IfOk result (λ r. IfSome r.0.table IsTable) }
     ensures reach { IfOk result (λ r. IfSome r.0.factors (λ e. Reaches e (last_tick (setup_of r.0.params)))) }
     ensures kept { IfOk result (λ r. IsKept (setup_of r.0.params) r.1) }
-    ensures quiet { OnOk result ((S.faults store.new ≡ S.faults store.old) × (S.last store.new ≡ S.last store.old)) }
-    ensures err { IfErr result (ResumeRefusal (record {
-      tells = S.tells store.old;
-      files = S.file store.old;
-      faults = S.faults store.old;
-      faults_new = S.faults store.new;
-      last = S.last store.new;
-    }) name.now restart.now) }
+    ensures quiet { OnOk result (IsQuiet S.Store store.old store.new) }
+    ensures err { IfErr result (ResumeRefusal (seen_by S.Store store.old store.new) name.now restart.now) }
 {
-    let basis = match load_basis(alloc, store, name) {
-        Ok(basis) => basis,
+    let inputs = match load_inputs(alloc, store, name) {
+        Ok(inputs) => inputs,
         Err(status) => return Err(status),
     };
     let (state, kept) = match load_restart(alloc, store, restart) {
         Ok(kept) => kept,
         Err(status) => return Err(status),
     };
-    match check_settings(&kept, &basis.params) {
-        Ok(()) => Ok((basis, state)),
+    match check_settings(&kept, &inputs.params) {
+        Ok(()) => Ok((inputs, state)),
         Err(status) => Err(status),
     }
 }

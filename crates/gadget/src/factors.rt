@@ -3,9 +3,9 @@ ghost use Rattle.std.specs.Prelude.{◌≡◌, ◌≤◌, ◌+◌, ◌^◌, IsTr
 ghost use Rattle.nbody_model.specs.Setups.{last_tick};
 ghost use Rattle.nbody_model.specs.Tables.{Reaches};
 ghost use Rattle.param_file.specs.Settings.{setup_of};
-ghost use Rattle.expansion_table.specs.ExpansionFile.{Spell as SpellFactors};
-ghost use Rattle.gadget.specs.Reads.{Seen};
-ghost use Rattle.gadget.specs.Factors.{FactorsAnswer, FactorsRefusal, GivesFactors, NamedFactorsRefusal, NamesFactors};
+ghost use Rattle.store_io.specs.Told.{IsQuiet, KeepsFiles, Tells};
+ghost use Rattle.gadget.specs.Reads.{seen_by};
+ghost use Rattle.gadget.specs.Factors.{SpellsFactors, FactorsAnswer, FactorsRefusal, GivesFactors, NamedFactorsRefusal, NamesFactors};
 
 use crate::inputs::read_file;
 use crate::status::Status;
@@ -29,7 +29,7 @@ fn last_tick(params: &Params) -> u64
 
 // The table that bytes spell, for a run up to a last tick.
 fn factors_of(alloc: Global, bytes: &[u8], last: u64) -> Result<Expansion, Status>
-    ensures ok { IfOk result (SpellFactors bytes.now last) }
+    ensures ok { IfOk result (SpellsFactors last bytes.now) }
     ensures reach { IfOk result (λ t. Reaches t last) }
     ensures err { IfErr result (FactorsAnswer bytes.now last) }
 {
@@ -47,19 +47,11 @@ fn load_table<S: Store>(
     name: &Text,
     last: u64,
 ) -> Result<Expansion, Status>
-    ensures tells { S.tells store.new ≡ S.tells store.old }
-    ensures files { S.file store.new ≡ S.file store.old }
-    ensures closed { S.closed store.new ≡ S.closed store.old }
-    ensures ok { IfOk result (λ t. IsTrue (S.tells store.old) → NamesFactors (S.file store.old) last name.now t) }
+    ensures keeps { KeepsFiles S.Store store.old store.new }
+    ensures ok { IfOk result (λ t. Tells S.Store store.old → NamesFactors (S.file store.old) last name.now t) }
     ensures reach { IfOk result (λ t. Reaches t last) }
-    ensures quiet { OnOk result ((S.faults store.new ≡ S.faults store.old) × (S.last store.new ≡ S.last store.old)) }
-    ensures err { IfErr result (NamedFactorsRefusal (record {
-      tells = S.tells store.old;
-      files = S.file store.old;
-      faults = S.faults store.old;
-      faults_new = S.faults store.new;
-      last = S.last store.new;
-    }) last name.now) }
+    ensures quiet { OnOk result (IsQuiet S.Store store.old store.new) }
+    ensures err { IfErr result (NamedFactorsRefusal (seen_by S.Store store.old store.new) last name.now) }
 {
     let bytes = match read_file(alloc, store, name, LONGEST_TABLE) {
         Ok(bytes) => bytes,
@@ -74,20 +66,11 @@ pub fn load_factors<S: Store>(
     store: &mut S,
     params: &Params,
 ) -> Result<Option<Expansion>, Status>
-    ensures tells { S.tells store.new ≡ S.tells store.old }
-    ensures files { S.file store.new ≡ S.file store.old }
-    ensures closed { S.closed store.new ≡ S.closed store.old }
-    ensures ok { IfOk result (λ t. IsTrue (S.tells store.old)
-        → GivesFactors (S.file store.old) (last_tick (setup_of params.now)) params.now.expansion_table_file t) }
+    ensures keeps { KeepsFiles S.Store store.old store.new }
+    ensures ok { IfOk result (λ t. Tells S.Store store.old → GivesFactors (S.file store.old) (last_tick (setup_of params.now)) params.now.expansion_table_file t) }
     ensures reach { IfOk result (λ t. IfSome t (λ e. Reaches e (last_tick (setup_of params.now)))) }
-    ensures quiet { OnOk result ((S.faults store.new ≡ S.faults store.old) × (S.last store.new ≡ S.last store.old)) }
-    ensures err { IfErr result (FactorsRefusal (record {
-      tells = S.tells store.old;
-      files = S.file store.old;
-      faults = S.faults store.old;
-      faults_new = S.faults store.new;
-      last = S.last store.new;
-    }) (last_tick (setup_of params.now)) params.now.expansion_table_file) }
+    ensures quiet { OnOk result (IsQuiet S.Store store.old store.new) }
+    ensures err { IfErr result (FactorsRefusal (seen_by S.Store store.old store.new) (last_tick (setup_of params.now)) params.now.expansion_table_file) }
 {
     match &params.expansion_table_file {
         Some(name) => match load_table(alloc, store, name, last_tick(params)) {

@@ -3,12 +3,10 @@ ghost use Rattle.std.specs.Prelude.{◌≡◌, ◌⊎◌, false, IsTrue, IfOk, I
 ghost use Rattle.nbody_model.specs.Setups.{last_tick};
 ghost use Rattle.nbody_model.specs.Tables.{IsTable, Reaches};
 ghost use Rattle.param_file.specs.Settings.{setup_of};
-ghost use Rattle.text_words.specs.Comments.{lines_in};
-ghost use Rattle.param_file.specs.Reading.{Spell as SpellParams};
-ghost use Rattle.output_schedule.specs.Times.{Spell as SpellTimes};
 ghost use Rattle.store_io.specs.Causes.{HasCause, read_failed};
-ghost use Rattle.gadget.specs.Reads.{Seen, WasRead, NotRead, status_of};
-ghost use Rattle.gadget.specs.Inputs.{NamesParams, ParamRefusal, ParamAnswer, GivesTimes, NamesTimes, ListRefusal, NamedListRefusal, ListAnswer, Accepts, FirstRefusal, RefusesList, RefusesTable, RefusesFactors, asks_unbuilt};
+ghost use Rattle.store_io.specs.Told.{IsQuiet, KeepsFiles, Tells};
+ghost use Rattle.gadget.specs.Reads.{WasRead, NotRead, seen_by, status_of};
+ghost use Rattle.gadget.specs.Inputs.{SpellsParams, SpellsTimes, NamesParams, ParamRefusal, ParamAnswer, GivesTimes, NamesTimes, ListRefusal, NamedListRefusal, ListAnswer, Accepts, FirstRefusal, RefusesList, RefusesTable, RefusesFactors, asks_unbuilt, inputs_of};
 
 use crate::factors::load_factors;
 use crate::status::Status;
@@ -49,18 +47,10 @@ pub fn read_file<S: Store>(
     name: &Text,
     limit: u64,
 ) -> Result<Vec<u8>, Status>
-    ensures tells { S.tells store.new ≡ S.tells store.old }
-    ensures files { S.file store.new ≡ S.file store.old }
-    ensures closed { S.closed store.new ≡ S.closed store.old }
-    ensures ok { IfOk result (λ v. IsTrue (S.tells store.old) → WasRead (S.file store.old) name.now limit v.items) }
-    ensures quiet { OnOk result ((S.faults store.new ≡ S.faults store.old) × (S.last store.new ≡ S.last store.old)) }
-    ensures err { IfErr result (NotRead (record {
-      tells = S.tells store.old;
-      files = S.file store.old;
-      faults = S.faults store.old;
-      faults_new = S.faults store.new;
-      last = S.last store.new;
-    }) name.now limit) }
+    ensures keeps { KeepsFiles S.Store store.old store.new }
+    ensures ok { IfOk result (λ v. Tells S.Store store.old → WasRead (S.file store.old) name.now limit v.items) }
+    ensures quiet { OnOk result (IsQuiet S.Store store.old store.new) }
+    ensures err { IfErr result (NotRead (seen_by S.Store store.old store.new) name.now limit) }
 {
     match read_whole(alloc, store, name, limit) {
         Ok(bytes) => Ok(bytes),
@@ -70,7 +60,7 @@ pub fn read_file<S: Store>(
 
 // The settings that bytes spell.
 fn params_of(alloc: Global, bytes: &[u8]) -> Result<Params, Status>
-    ensures ok { IfOk result (SpellParams (lines_in bytes.now)) }
+    ensures ok { IfOk result (SpellsParams bytes.now) }
     ensures err { IfErr result (ParamAnswer bytes.now) }
 {
     match read_params(alloc, bytes) {
@@ -84,19 +74,11 @@ fn params_of(alloc: Global, bytes: &[u8]) -> Result<Params, Status>
 
 // Reads a parameter file that asks for nothing but what is built.
 fn load_params<S: Store>(alloc: Global, store: &mut S, name: &Text) -> Result<Params, Status>
-    ensures tells { S.tells store.new ≡ S.tells store.old }
-    ensures files { S.file store.new ≡ S.file store.old }
-    ensures closed { S.closed store.new ≡ S.closed store.old }
-    ensures ok { IfOk result (λ p. IsTrue (S.tells store.old) → NamesParams (S.file store.old) name.now p) }
+    ensures keeps { KeepsFiles S.Store store.old store.new }
+    ensures ok { IfOk result (λ p. Tells S.Store store.old → NamesParams (S.file store.old) name.now p) }
     ensures built { IfOk result (λ p. asks_unbuilt p ≡ false) }
-    ensures quiet { OnOk result ((S.faults store.new ≡ S.faults store.old) × (S.last store.new ≡ S.last store.old)) }
-    ensures err { IfErr result (ParamRefusal (record {
-      tells = S.tells store.old;
-      files = S.file store.old;
-      faults = S.faults store.old;
-      faults_new = S.faults store.new;
-      last = S.last store.new;
-    }) name.now) }
+    ensures quiet { OnOk result (IsQuiet S.Store store.old store.new) }
+    ensures err { IfErr result (ParamRefusal (seen_by S.Store store.old store.new) name.now) }
 {
     let bytes = match read_file(alloc, store, name, LONGEST_PARAMETERS) {
         Ok(bytes) => bytes,
@@ -114,7 +96,7 @@ fn load_params<S: Store>(alloc: Global, store: &mut S, name: &Text) -> Result<Pa
 
 // The times that bytes spell.
 fn times_of(alloc: Global, bytes: &[u8]) -> Result<Vec<u64>, Status>
-    ensures ok { IfOk result (λ v. SpellTimes (lines_in bytes.now) v.items) }
+    ensures ok { IfOk result (λ v. SpellsTimes bytes.now v.items) }
     ensures err { IfErr result (ListAnswer bytes.now) }
 {
     match read_outputs(alloc, bytes) {
@@ -126,18 +108,10 @@ fn times_of(alloc: Global, bytes: &[u8]) -> Result<Vec<u64>, Status>
 
 // Reads an output list.
 fn load_list<S: Store>(alloc: Global, store: &mut S, name: &Text) -> Result<Vec<u64>, Status>
-    ensures tells { S.tells store.new ≡ S.tells store.old }
-    ensures files { S.file store.new ≡ S.file store.old }
-    ensures closed { S.closed store.new ≡ S.closed store.old }
-    ensures ok { IfOk result (λ v. IsTrue (S.tells store.old) → NamesTimes (S.file store.old) name.now v.items) }
-    ensures quiet { OnOk result ((S.faults store.new ≡ S.faults store.old) × (S.last store.new ≡ S.last store.old)) }
-    ensures err { IfErr result (NamedListRefusal (record {
-      tells = S.tells store.old;
-      files = S.file store.old;
-      faults = S.faults store.old;
-      faults_new = S.faults store.new;
-      last = S.last store.new;
-    }) name.now) }
+    ensures keeps { KeepsFiles S.Store store.old store.new }
+    ensures ok { IfOk result (λ v. Tells S.Store store.old → NamesTimes (S.file store.old) name.now v.items) }
+    ensures quiet { OnOk result (IsQuiet S.Store store.old store.new) }
+    ensures err { IfErr result (NamedListRefusal (seen_by S.Store store.old store.new) name.now) }
 {
     let bytes = match read_file(alloc, store, name, LONGEST_LIST) {
         Ok(bytes) => bytes,
@@ -148,19 +122,10 @@ fn load_list<S: Store>(alloc: Global, store: &mut S, name: &Text) -> Result<Vec<
 
 // Reads the listed times, none where no list is named.
 fn load_outputs<S: Store>(alloc: Global, store: &mut S, params: &Params) -> Result<Vec<u64>, Status>
-    ensures tells { S.tells store.new ≡ S.tells store.old }
-    ensures files { S.file store.new ≡ S.file store.old }
-    ensures closed { S.closed store.new ≡ S.closed store.old }
-    ensures ok { IfOk result (λ v. IsTrue (S.tells store.old)
-        → GivesTimes (S.file store.old) params.now.output_list_filename v.items) }
-    ensures quiet { OnOk result ((S.faults store.new ≡ S.faults store.old) × (S.last store.new ≡ S.last store.old)) }
-    ensures err { IfErr result (ListRefusal (record {
-      tells = S.tells store.old;
-      files = S.file store.old;
-      faults = S.faults store.old;
-      faults_new = S.faults store.new;
-      last = S.last store.new;
-    }) params.now.output_list_filename) }
+    ensures keeps { KeepsFiles S.Store store.old store.new }
+    ensures ok { IfOk result (λ v. Tells S.Store store.old → GivesTimes (S.file store.old) params.now.output_list_filename v.items) }
+    ensures quiet { OnOk result (IsQuiet S.Store store.old store.new) }
+    ensures err { IfErr result (ListRefusal (seen_by S.Store store.old store.new) params.now.output_list_filename) }
 {
     match &params.output_list_filename {
         Some(name) => load_list(alloc, store, name),
@@ -170,7 +135,7 @@ fn load_outputs<S: Store>(alloc: Global, store: &mut S, params: &Params) -> Resu
 
 /// What a run goes by beside its bodies: its settings, the listed times, and the tables of corrections and of factors.
 #[derive(Drop)]
-pub struct Basis {
+pub struct Inputs {
     pub params: Params,
     pub outputs: Vec<u64>,
     pub table: Option<Table>,
@@ -178,22 +143,13 @@ pub struct Basis {
 }
 
 /// Reads a parameter file, then the list and the tables that it names.
-pub fn load_basis<S: Store>(alloc: Global, store: &mut S, name: &Text) -> Result<Basis, Status>
-    ensures tells { S.tells store.new ≡ S.tells store.old }
-    ensures files { S.file store.new ≡ S.file store.old }
-    ensures closed { S.closed store.new ≡ S.closed store.old }
-    ensures ok { IfOk result (λ b. IsTrue (S.tells store.old)
-        → Accepts (S.file store.old) name.now b.params b.outputs.items b.table b.factors) }
+pub fn load_inputs<S: Store>(alloc: Global, store: &mut S, name: &Text) -> Result<Inputs, Status>
+    ensures keeps { KeepsFiles S.Store store.old store.new }
+    ensures ok { IfOk result (λ b. Tells S.Store store.old → Accepts (S.file store.old) name.now (inputs_of b)) }
     ensures sound { IfOk result (λ b. IfSome b.table IsTable) }
     ensures reach { IfOk result (λ b. IfSome b.factors (λ e. Reaches e (last_tick (setup_of b.params)))) }
-    ensures quiet { OnOk result ((S.faults store.new ≡ S.faults store.old) × (S.last store.new ≡ S.last store.old)) }
-    ensures err { IfErr result (FirstRefusal (record {
-      tells = S.tells store.old;
-      files = S.file store.old;
-      faults = S.faults store.old;
-      faults_new = S.faults store.new;
-      last = S.last store.new;
-    }) name.now) }
+    ensures quiet { OnOk result (IsQuiet S.Store store.old store.new) }
+    ensures err { IfErr result (FirstRefusal (seen_by S.Store store.old store.new) name.now) }
 {
     let params = match load_params(alloc, store, name) {
         Ok(params) => params,
@@ -208,7 +164,7 @@ pub fn load_basis<S: Store>(alloc: Global, store: &mut S, name: &Text) -> Result
         Err(status) => return Err(status),
     };
     match load_factors(alloc, store, &params) {
-        Ok(factors) => Ok(Basis {
+        Ok(factors) => Ok(Inputs {
             params,
             outputs,
             table,

@@ -24,14 +24,18 @@ mod unbuilt;
 
 use fixed_point::Memory;
 use std::env;
+use std::io::ErrorKind;
 use std::process::ExitCode;
 use store_io::{ConsoleSink, FileStop, FileStore, SeededSchedule, Text};
 
+// The words behind the program's name; one that isn't text is a word that matches no command.
 fn words_of(rt: &HostRuntime) -> Result<Vec<Text>, Memory> {
     let alloc = rt.alloc();
     let mut words = Vec::new(alloc);
-    let Ok(args) = env::args(rt) else {
-        return Err(Memory);
+    let args = match env::args(rt) {
+        Ok(args) => args,
+        Err(err) if err.kind() == ErrorKind::InvalidData => return Ok(words),
+        Err(_) => return Err(Memory),
     };
     for word in args.skip(1) {
         words.push(Text::from_bytes(alloc, word.as_bytes())?)?;

@@ -3,7 +3,8 @@ ghost use Rattle.std.specs.Prelude.{◌≡◌, ℕ, List, IsTrue, IfOk, IfErr, O
 ghost use Rattle.restart_files.specs.RestartFile.{IsFirstFault, Spell as SpellState};
 ghost use Rattle.restart_files.specs.Stored.{IsKept};
 ghost use Rattle.param_file.specs.Settings.{setup_of};
-ghost use Rattle.gadget.specs.Reads.{Seen};
+ghost use Rattle.store_io.specs.Told.{IsQuiet, KeepsFiles, Tells};
+ghost use Rattle.gadget.specs.Reads.{seen_by};
 ghost use Rattle.gadget.specs.Restarts.{DiffersIn, NamesState, RestartAnswer, RestartRefusal};
 
 use crate::inputs::read_file;
@@ -47,19 +48,11 @@ pub fn load_restart<S: Store>(
     store: &mut S,
     name: &Text,
 ) -> Result<(State, Setup), Status>
-    ensures tells { S.tells store.new ≡ S.tells store.old }
-    ensures files { S.file store.new ≡ S.file store.old }
-    ensures closed { S.closed store.new ≡ S.closed store.old }
-    ensures ok { IfOk result (λ r. IsTrue (S.tells store.old) → NamesState (S.file store.old) name.now r.0 r.1) }
+    ensures keeps { KeepsFiles S.Store store.old store.new }
+    ensures ok { IfOk result (λ r. Tells S.Store store.old → NamesState (S.file store.old) name.now r.0 r.1) }
     ensures kept { IfOk result (λ r. IsKept r.1 r.0) }
-    ensures quiet { OnOk result ((S.faults store.new ≡ S.faults store.old) × (S.last store.new ≡ S.last store.old)) }
-    ensures err { IfErr result (RestartRefusal (record {
-      tells = S.tells store.old;
-      files = S.file store.old;
-      faults = S.faults store.old;
-      faults_new = S.faults store.new;
-      last = S.last store.new;
-    }) name.now) }
+    ensures quiet { OnOk result (IsQuiet S.Store store.old store.new) }
+    ensures err { IfErr result (RestartRefusal (seen_by S.Store store.old store.new) name.now) }
 {
     let bytes = match read_file(alloc, store, name, LONGEST_RESTART) {
         Ok(bytes) => bytes,

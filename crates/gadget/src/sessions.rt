@@ -5,11 +5,12 @@ ghost use Rattle.nbody_model.specs.States.{IsStart};
 ghost use Rattle.nbody_model.specs.Tables.{IsTable, Reaches};
 ghost use Rattle.param_file.specs.Settings.{setup_of};
 ghost use Rattle.run_session.specs.RunEnds.{IsBegun};
+ghost use Rattle.gadget.specs.Inputs.{inputs_of};
 ghost use Rattle.gadget.specs.Begins.{first_state};
-ghost use Rattle.gadget.specs.Answers.{ResumeDoes, RunDoes, SessionEnds, world};
+ghost use Rattle.gadget.specs.Answers.{ResumeDoes, RunDoes, SessionEndsBy, edge_by, world};
 
 use crate::begins::{load_resume, load_run};
-use crate::inputs::Basis;
+use crate::inputs::Inputs;
 use crate::outcome::Outcome;
 use force_field::ListField;
 use nbody_model::Setup;
@@ -51,31 +52,26 @@ fn setup_of(params: &Params) -> Setup
 // Runs from a state on, with one rank.
 fn run_from<S: Store, Q: Stopper>(
     alloc: Global,
-    basis: &Basis,
+    inputs: &Inputs,
     state: State,
     resumed: bool,
     store: &mut S,
     stop: &mut Q,
 ) -> Ended
-    requires begun { IsBegun (setup_of basis.now.params) resumed state }
-    requires sound { IfSome basis.now.table IsTable }
-    requires reach { IfSome basis.now.factors (λ e. Reaches e (last_tick (setup_of basis.now.params))) }
-    ensures { SessionEnds resumed (S.tells store.old) (world (S.file store.old) (S.closed store.old) (S.faults store.old) (S.last store.old) (Q.yes stop.old) (Q.left stop.old))
-        (world (S.file store.new) (S.closed store.new) (S.faults store.new) (S.last store.new) (Q.yes stop.new) (Q.left stop.new))
-        basis.now.params basis.now.outputs.items basis.now.table basis.now.factors state result }
+    requires begun { IsBegun (setup_of inputs.now.params) resumed state }
+    requires sound { IfSome inputs.now.table IsTable }
+    requires reach { IfSome inputs.now.factors (λ e. Reaches e (last_tick (setup_of inputs.now.params))) }
+    ensures tells { S.tells store.new ≡ S.tells store.old }
+    ensures ends { SessionEndsBy resumed (edge_by S.Store Q.Stopper store.old stop.old store.new stop.new)
+        (inputs_of inputs.now) state result }
 {
-    let mut forces = ListField::new(alloc, basis.params.setup(), basis.table.as_ref());
-    run_session::run(
-        alloc,
-        state,
-        resumed,
-        &basis.params,
-        basis.factors.as_ref(),
-        &basis.outputs,
-        &mut forces,
-        store,
-        stop,
-    )
+    let mut forces = ListField::new(alloc, inputs.params.setup(), inputs.table.as_ref());
+    let course = run_session::Inputs {
+        params: &inputs.params,
+        expansion: inputs.factors.as_ref(),
+        outputs: &inputs.outputs,
+    };
+    run_session::run(alloc, &course, resumed, state, &mut forces, store, stop)
 }
 
 /// A run with one rank from tick 0.
@@ -85,16 +81,17 @@ pub fn run<S: Store, Q: Stopper>(
     store: &mut S,
     stop: &mut Q,
 ) -> Outcome
-    ensures { RunDoes (S.tells store.old) (world (S.file store.old) (S.closed store.old) (S.faults store.old) (S.last store.old) (Q.yes stop.old) (Q.left stop.old))
-        (world (S.file store.new) (S.closed store.new) (S.faults store.new) (S.last store.new) (Q.yes stop.new) (Q.left stop.new)) param.now result }
+    ensures tells { S.tells store.new ≡ S.tells store.old }
+    ensures does { RunDoes (S.tells store.old) (world S.Store Q.Stopper store.old stop.old)
+        (world S.Store Q.Stopper store.new stop.new) param.now result }
 {
-    let (basis, set) = match load_run(alloc, store, param) {
-        Ok(inputs) => inputs,
+    let (inputs, set) = match load_run(alloc, store, param) {
+        Ok(begun) => begun,
         Err(status) => return Outcome::Refused(status),
     };
     let state = first_state(alloc, set);
-    let setup = setup_of(&basis.params);
-    let ended = run_from(alloc, &basis, state, false, store, stop);
+    let setup = setup_of(&inputs.params);
+    let ended = run_from(alloc, &inputs, state, false, store, stop);
     Outcome::Ran { ended, setup }
 }
 
@@ -106,14 +103,15 @@ pub fn resume<S: Store, Q: Stopper>(
     store: &mut S,
     stop: &mut Q,
 ) -> Outcome
-    ensures { ResumeDoes (S.tells store.old) (world (S.file store.old) (S.closed store.old) (S.faults store.old) (S.last store.old) (Q.yes stop.old) (Q.left stop.old))
-        (world (S.file store.new) (S.closed store.new) (S.faults store.new) (S.last store.new) (Q.yes stop.new) (Q.left stop.new)) param.now restart.now result }
+    ensures tells { S.tells store.new ≡ S.tells store.old }
+    ensures does { ResumeDoes (S.tells store.old) (world S.Store Q.Stopper store.old stop.old)
+        (world S.Store Q.Stopper store.new stop.new) param.now restart.now result }
 {
-    let (basis, state) = match load_resume(alloc, store, param, restart) {
-        Ok(inputs) => inputs,
+    let (inputs, state) = match load_resume(alloc, store, param, restart) {
+        Ok(begun) => begun,
         Err(status) => return Outcome::Refused(status),
     };
-    let setup = setup_of(&basis.params);
-    let ended = run_from(alloc, &basis, state, true, store, stop);
+    let setup = setup_of(&inputs.params);
+    let ended = run_from(alloc, &inputs, state, true, store, stop);
     Outcome::Ran { ended, setup }
 }

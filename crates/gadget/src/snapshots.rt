@@ -1,7 +1,8 @@
 // The snapshot that a run begins with, or that is to be shown.
 ghost use Rattle.std.specs.Prelude.{◌≡◌, ℕ, List, IsTrue, IfOk, IfErr, OnOk};
 ghost use Rattle.snap_file.specs.Snapshots.{IsHeadFault, IsSnapshotFault, SpellsHead, SpellsSnapshot};
-ghost use Rattle.gadget.specs.Reads.{Seen};
+ghost use Rattle.store_io.specs.Told.{IsQuiet, KeepsFiles, Tells};
+ghost use Rattle.gadget.specs.Reads.{seen_by};
 ghost use Rattle.gadget.specs.Snapshots.{NamesBodies, NamesSnapshot, SnapshotRefusal, SnapshotAnswer};
 
 use crate::inputs::read_file;
@@ -54,18 +55,10 @@ pub fn load_snapshot<S: Store>(
     store: &mut S,
     name: &Text,
 ) -> Result<(Head, BodySet), Status>
-    ensures tells { S.tells store.new ≡ S.tells store.old }
-    ensures files { S.file store.new ≡ S.file store.old }
-    ensures closed { S.closed store.new ≡ S.closed store.old }
-    ensures ok { IfOk result (λ r. IsTrue (S.tells store.old) → NamesSnapshot (S.file store.old) name.now r.0 r.1) }
-    ensures quiet { OnOk result ((S.faults store.new ≡ S.faults store.old) × (S.last store.new ≡ S.last store.old)) }
-    ensures err { IfErr result (SnapshotRefusal (record {
-      tells = S.tells store.old;
-      files = S.file store.old;
-      faults = S.faults store.old;
-      faults_new = S.faults store.new;
-      last = S.last store.new;
-    }) name.now) }
+    ensures keeps { KeepsFiles S.Store store.old store.new }
+    ensures ok { IfOk result (λ r. Tells S.Store store.old → NamesSnapshot (S.file store.old) name.now r.0 r.1) }
+    ensures quiet { OnOk result (IsQuiet S.Store store.old store.new) }
+    ensures err { IfErr result (SnapshotRefusal (seen_by S.Store store.old store.new) name.now) }
 {
     let bytes = match read_file(alloc, store, name, LONGEST_SNAPSHOT) {
         Ok(bytes) => bytes,
@@ -87,18 +80,10 @@ pub fn load_bodies<S: Store>(
     store: &mut S,
     params: &Params,
 ) -> Result<BodySet, Status>
-    ensures tells { S.tells store.new ≡ S.tells store.old }
-    ensures files { S.file store.new ≡ S.file store.old }
-    ensures closed { S.closed store.new ≡ S.closed store.old }
-    ensures ok { IfOk result (λ B. IsTrue (S.tells store.old) → NamesBodies (S.file store.old) params.now.init_cond_file B) }
-    ensures quiet { OnOk result ((S.faults store.new ≡ S.faults store.old) × (S.last store.new ≡ S.last store.old)) }
-    ensures err { IfErr result (SnapshotRefusal (record {
-      tells = S.tells store.old;
-      files = S.file store.old;
-      faults = S.faults store.old;
-      faults_new = S.faults store.new;
-      last = S.last store.new;
-    }) params.now.init_cond_file) }
+    ensures keeps { KeepsFiles S.Store store.old store.new }
+    ensures ok { IfOk result (λ B. Tells S.Store store.old → NamesBodies (S.file store.old) params.now.init_cond_file B) }
+    ensures quiet { OnOk result (IsQuiet S.Store store.old store.new) }
+    ensures err { IfErr result (SnapshotRefusal (seen_by S.Store store.old store.new) params.now.init_cond_file) }
 {
     let bytes = match read_file(alloc, store, &params.init_cond_file, LONGEST_SNAPSHOT) {
         Ok(bytes) => bytes,

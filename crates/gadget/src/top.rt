@@ -2,7 +2,7 @@
 ghost use Rattle.std.specs.Prelude.{◌≡◌, IfOk};
 ghost use Rattle.gadget.specs.Commands.{asked};
 ghost use Rattle.gadget.specs.Outcomes.{status_of, text_of};
-ghost use Rattle.gadget.specs.Answers.{Console, Does, Ends, Prints, world};
+ghost use Rattle.gadget.specs.Answers.{Does, Ends, Prints, console, edge_by, world};
 
 use crate::command::{Command, command_of};
 use crate::look::{check, show};
@@ -23,8 +23,9 @@ fn perform<S: Store, Q: Stopper>(
     store: &mut S,
     stop: &mut Q,
 ) -> Outcome
-    ensures { Does (asked words.now) (S.tells store.old) (world (S.file store.old) (S.closed store.old) (S.faults store.old) (S.last store.old) (Q.yes stop.old) (Q.left stop.old))
-        (world (S.file store.new) (S.closed store.new) (S.faults store.new) (S.last store.new) (Q.yes stop.new) (Q.left stop.new)) result }
+    ensures tells { S.tells store.new ≡ S.tells store.old }
+    ensures does { Does (asked words.now) (S.tells store.old) (world S.Store Q.Stopper store.old stop.old)
+        (world S.Store Q.Stopper store.new stop.new) result }
 {
     match command_of(words) {
         Command::Nothing => Outcome::Refused(Status::Usage),
@@ -75,8 +76,7 @@ fn status_of(outcome: Outcome) -> Status
 
 // Prints lines. A fault of the sink replaces the answer.
 fn print<O: Sink>(out: &mut O, lines: &[u8], status: Status) -> Status
-    ensures { Prints status lines.now (record { written = O.written out.old; faults = O.faults out.old })
-        (record { written = O.written out.new; faults = O.faults out.new }) result }
+    ensures { Prints status lines.now (console O.Sink out.old) (console O.Sink out.new) result }
 {
     match out.write(lines) {
         Ok(()) => status,
@@ -87,8 +87,7 @@ fn print<O: Sink>(out: &mut O, lines: &[u8], status: Status) -> Status
 
 // Prints the lines of an outcome, and answers its status.
 fn tell<O: Sink>(alloc: Global, outcome: Outcome, out: &mut O) -> Status
-    ensures { Prints (status_of outcome) (text_of outcome) (record { written = O.written out.old; faults = O.faults out.old })
-        (record { written = O.written out.new; faults = O.faults out.new }) result }
+    ensures { Prints (status_of outcome) (text_of outcome) (console O.Sink out.old) (console O.Sink out.new) result }
 {
     match lines_of(alloc, &outcome) {
         Ok(lines) => print(out, &lines, status_of(outcome)),
@@ -105,10 +104,9 @@ pub fn gadget<S: Store, K: Schedule, Q: Stopper, O: Sink>(
     stop: &mut Q,
     out: &mut O,
 ) -> Status
-    ensures { Ends (asked words.now) (S.tells store.old) (world (S.file store.old) (S.closed store.old) (S.faults store.old) (S.last store.old) (Q.yes stop.old) (Q.left stop.old))
-        (world (S.file store.new) (S.closed store.new) (S.faults store.new) (S.last store.new) (Q.yes stop.new) (Q.left stop.new))
-        (record { written = O.written out.old; faults = O.faults out.old })
-        (record { written = O.written out.new; faults = O.faults out.new }) result }
+    ensures tells { S.tells store.new ≡ S.tells store.old }
+    ensures ends { Ends (asked words.now) (edge_by S.Store Q.Stopper store.old stop.old store.new stop.new)
+        (console O.Sink out.old) (console O.Sink out.new) result }
 {
     let outcome = perform(alloc, words, store, stop);
     tell(alloc, outcome, out)

@@ -1,4 +1,5 @@
 use Rattle.std.proofs.Common.{inl}
+use Rattle.gadget.specs.Inputs.{inputs_of}
 use Rattle.gadget.proofs.Begun.{settings_refused}
 use Rattle.gadget.proofs.begins.load_resume.Goals as goal
 
@@ -9,10 +10,10 @@ pub returns-in-Err-check_settings-clause-err : goal.returns-in-Err-check_setting
 returns-in-Err-check_settings-clause-err g c =
     let S = g.S.Store in
     let start = c.args.store.now in
-    let one = c.load_basis.new.store in
+    let one = c.load_inputs.new.store in
     let two = c.load_restart.new.store in
-    let b = c.in-Ok.basis in
+    let b = c.in-Ok.inputs in
     let kept = c.in-Ok-load_restart.kept in
     settings_refused (S.tells start) (S.tells one) (S.file start) (S.file one) (S.faults start) (S.faults two) (S.last two)
-    c.args.name.now c.args.restart.now b.params b.outputs.items b.table b.factors kept.0 kept.1 c.in-Err-check_settings.status
-    c.in-Ok.ensures.tells c.in-Ok.ensures.files c.in-Ok.ensures.ok c.in-Ok-load_restart.ensures.ok c.in-Err-check_settings.ensures.err
+    c.args.name.now c.args.restart.now (inputs_of b) kept.0 kept.1 c.in-Err-check_settings.status
+    c.in-Ok.ensures.keeps.tells c.in-Ok.ensures.keeps.files c.in-Ok.ensures.ok c.in-Ok-load_restart.ensures.ok c.in-Err-check_settings.ensures.err
