@@ -89,7 +89,7 @@ kept_map_step : (t : Position → Bool) (b : BodyData) (ys : List BodyData) (zs 
 kept_map_step t b ys zs true e = ap (λ u. b.motion.pos ∷ u) e
 kept_map_step t b ys zs false e = e
 
-member_positions : (B : List BodyData) (c : CellData) → positions_of (members B c) ≡ filter (contains c) (positions_of B)
+pub member_positions : (B : List BodyData) (c : CellData) → positions_of (members B c) ≡ filter (contains c) (positions_of B)
 member_positions [] c = refl
 member_positions (b ∷ bs) c = kept_map_step (contains c) b (members bs c) (filter (contains c) (positions_of bs)) (contains c b.motion.pos) (member_positions bs c)
 
@@ -168,7 +168,7 @@ place_of (b ∷ bs) some h = record { p = b.motion.pos; all = every }
     every c (inr k) = one_place bs b.motion.pos h c k
 
 -- a node has mass
-node_mass : (B : List BodyData) → AllByRecursion (λ b. 1 ≤ b.mass) B → (c : CellData) → is_node (positions_of B) c ≡ true → 0 < mass_of (members B c)
+pub node_mass : (B : List BodyData) → AllByRecursion (λ b. 1 ≤ b.mass) B → (c : CellData) → is_node (positions_of B) c ≡ true → 0 < mass_of (members B c)
 unfolding is_node
 node_mass B heavy c h =
     let w : Witness (contains c) (positions_of B) = any-witness (contains c) (positions_of B) h in

@@ -1,12 +1,12 @@
 -- Sessions conserve ids, kinds, masses and the momentum of all bodies together.
-use Rattle.std.proofs.Common.{◌≡◌, ◌<◌, ◌≤◌, ℕ, zero, suc, ◌+◌, ◌*◌, ◌^◌, Bool, true, false, cond, not, ◌&&◌, ◌||◌, ◌==◌, ℤ, pos, negsuc, List, [], ◌∷◌, ◌++◌, length, map, sum_by, Option, Some, None, unsigned_abs, refl, ap, sym, ◌∙◌, subst, arith, mod-lt}
+use Rattle.std.proofs.Common.{◌≡◌, ◌≤◌, ℕ, zero, suc, ◌+◌, ◌*◌, ◌^◌, Bool, true, false, cond, not, ◌&&◌, ◌||◌, ◌==◌, pos, List, [], ◌∷◌, ◌++◌, length, map, sum_by, Option, Some, None, refl, ap, sym, ◌∙◌, subst}
 use Rattle.std.specs.List.{AllByRecursion}
 use Rattle.std.specs.List.Sorted.{IsStrictlyIncreasing}
-use Rattle.std.specs.Int.{int_rem_euclid}
 use Rattle.std.proofs.lemmas.List.{length-map}
 use Rattle.std.proofs.lemmas.List.Folds.{fold-map}
 use Rattle.std.proofs.lemmas.Grind.{flat_map-append}
 use Rattle.fixed_point.specs.declared.V3.{V3}
+use Rattle.fixed_point.proofs.Euclid.{rem_below}
 use Rattle.cell_space.specs.Cells.{InBox}
 use Rattle.nbody_model.specs.Bodies.{BodyData, has, only, total}
 use Rattle.nbody_model.specs.Setups.{SetupData}
@@ -30,7 +30,7 @@ all_mapped : {X Y : Type 0} (Q : Y → Type 0) (h : X → Y) (xs : List X) → A
 all_mapped Q h [] a = tt
 all_mapped Q h (x ∷ xs) a = (a.0, all_mapped Q h xs a.1)
 
-mapped_all : {X Y : Type 0} (Q : Y → Type 0) (h : X → Y) (xs : List X) → AllByRecursion (λ x. Q (h x)) xs → AllByRecursion Q (map h xs)
+pub mapped_all : {X Y : Type 0} (Q : Y → Type 0) (h : X → Y) (xs : List X) → AllByRecursion (λ x. Q (h x)) xs → AllByRecursion Q (map h xs)
 mapped_all Q h [] a = tt
 mapped_all Q h (x ∷ xs) a = (a.0, mapped_all Q h xs a.1)
 
@@ -64,10 +64,6 @@ are_moved B C e box a =
     }
 
 -- ---- the drift
-
-rem_below : (z : ℤ) → unsigned_abs (int_rem_euclid z (pos (2 ^ 32))) < 2 ^ 32
-rem_below (pos a) = mod-lt a (omega arith)
-rem_below (negsuc a) = omega arith
 
 drifted_in : (s : SetupData) (ticks : ℕ) (b : BodyData) → InBox (drifted s ticks b).motion.pos
 drifted_in s ticks b = record { below_x = rem_below _; below_y = rem_below _; below_z = rem_below _ }

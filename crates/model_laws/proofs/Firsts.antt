@@ -79,7 +79,7 @@ one_first B a d p h k =
     let b : BodyAt p B = body_at p B h in
     one_step B a d b.it (among-filter (λ b. contains d b.motion.pos) b.it B b.«in» (ap (contains d) b.at ∙ k)) (members B d) refl
 
-position_among : (b : BodyData) (B : List BodyData) → Among b B → Among b.motion.pos (positions_of B)
+pub position_among : (b : BodyData) (B : List BodyData) → Among b B → Among b.motion.pos (positions_of B)
 position_among b B h = among-map (λ b. b.motion.pos) b B h
 
 -- ---- the total of a cell

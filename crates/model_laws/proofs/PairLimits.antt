@@ -105,7 +105,7 @@ two_masses : (t u : BodyData → Bool) (B : List BodyData) → ((b : BodyData) �
 two_masses t u [] h = omega arith
 two_masses t u (b ∷ bs) h = omega (arith, sum_by-cons (λ b. cond (t b) b.mass 0) b bs, sum_by-cons (λ b. cond (u b) b.mass 0) b bs, sum_by-cons (λ b. b.mass) b bs, two_masses t u bs h, either_mass (t b) (u b) b.mass (h b))
 
-disjoint_masses : (B : List BodyData) (a b : CellData) → AreDisjoint a b → mass_of (members B a) + mass_of (members B b) ≤ mass_of B
+pub disjoint_masses : (B : List BodyData) (a b : CellData) → AreDisjoint a b → mass_of (members B a) + mass_of (members B b) ≤ mass_of B
 disjoint_masses B a b d =
     omega (
       arith,
@@ -259,7 +259,7 @@ images_little (Some t) c d near strength h =
     let m : IsAtMost (2 ^ 31) (correction t d) = c d near in
     record { on_x = image_axis strength (correction t d).x h m.on_x; on_y = image_axis strength (correction t d).y h m.on_y; on_z = image_axis strength (correction t d).z h m.on_z }
 
-mass_is : (s : SetupData) (B : List BodyData) (c : CellData) → (moments s B c).mass ≡ mass_of (members B c)
+pub mass_is : (s : SetupData) (B : List BodyData) (c : CellData) → (moments s B c).mass ≡ mass_of (members B c)
 unfolding moments
 mass_is s B c = refl
 

@@ -119,7 +119,7 @@ doubled n c =
     let f = ap (λ y. n * y) e in
     omega (arith, f)
 
-low_of : (k c x : ℕ) → c < k → count_trailing_zeros k ((2 * x + 1) * 2 ^ c) ≡ c
+pub low_of : (k c x : ℕ) → c < k → count_trailing_zeros k ((2 * x + 1) * 2 ^ c) ≡ c
 unfolding count_trailing_zeros
 low_of zero c x h = omega (arith, h)
 low_of (suc k) zero x h = let e : (2 * x + 1) * 2 ^ 0 % 2 ≡ 1 = omega arith in ap (λ d. under d (count_trailing_zeros k ((2 * x + 1) * 2 ^ 0 / 2))) e

@@ -88,7 +88,7 @@ remainders s all (m ∷ ms) h = omega (arith, sum_by-cons (λ m. rest_of s all m
 split : (s f all : ℕ) → f ≤ s → (s - f) * all + f * all ≡ s * all
 split s f all h = let e : s - f + f ≡ s = omega arith in omega (arith, ap (λ t. t * all) e)
 
-bounds : (s all f r n : ℕ) → 0 < all → s * all ≡ all * f + r → r ≤ n * all → (f ≤ s) × (s - f ≤ n)
+pub bounds : (s all f r n : ℕ) → 0 < all → s * all ≡ all * f + r → r ≤ n * all → (f ≤ s) × (s - f ≤ n)
 bounds s all f r n h e k =
     let a : f ≤ s = le_of_mul-le-mul_right (omega (arith, e)) h in
     (a, le_of_mul-le-mul_right (omega (arith, e, k, split s f all a)) h)
