@@ -25,7 +25,7 @@ count_turns s all b (m ∷ ms) h k a =
     ∙ rw (turns_order s all b m h (a 0 (0, 0) (omega arith)) k, count_turns s all b ms h k (λ i d l. a (suc i) d (omega arith))) refl
     ∙ sym (sum_by-cons (λ t. cond (nat_lt t (turn s all b)) 1 0) (turn s all m) (map (turn s all) ms))
 
-sum_mapped : (f : BodyData → ℕ) (ms : List Member) → sum_by f (map body_of ms) ≡ sum_by (λ m. f (body_of m)) ms
+pub sum_mapped : (f : BodyData → ℕ) (ms : List Member) → sum_by f (map body_of ms) ≡ sum_by (λ m. f (body_of m)) ms
 sum_mapped f [] = refl
 sum_mapped f (m ∷ ms) = omega (arith, sum_by-cons f (body_of m) (map body_of ms), sum_by-cons (λ m. f (body_of m)) m ms, sum_mapped f ms)
 

@@ -2,7 +2,7 @@
 use Rattle.std.proofs.Common.{◌≡◌, ℕ, ◌+◌, ◌-◌, ◌*◌, ◌/◌, ◌%◌, ◌<◌, ◌≤◌, ◌^◌, List, [], ◌∷◌, length, sum_by, get_or, ap, sym, ◌∙◌, arith, All}
 use Rattle.std.proofs.lemmas.List.Sums.{sum_by-cons, get_or-le-sum_by}
 use Rattle.std.proofs.lemmas.Nat.{div-add-mod', mod_below, mul-le}
-use Rattle.std.proofs.Math.Nat.{le_of_mul-le-mul_right}
+use Rattle.model_laws.proofs.Shares.{bounds}
 use Rattle.force_sharing.specs.Sharing.{Member}
 
 -- s times each mass, added up
@@ -17,14 +17,6 @@ parts_all s all (m ∷ ms) = omega (arith, sum_by-cons (λ m. s * m.1) m ms, ap 
 rests_all : (s all : ℕ) (ms : List Member) → 0 < all → sum_by (λ m. s * m.1 % all) ms ≤ length ms * all
 rests_all s all [] h = omega arith
 rests_all s all (m ∷ ms) h = omega (arith, sum_by-cons (λ m. s * m.1 % all) m ms, rests_all s all ms h, mod_below (s * m.1) all h)
-
-split : (s f all : ℕ) → f ≤ s → (s - f) * all + f * all ≡ s * all
-split s f all h = let e : s - f + f ≡ s = omega arith in omega (arith, ap (λ t. t * all) e)
-
-bounds : (s all f r n : ℕ) → 0 < all → s * all ≡ all * f + r → r ≤ n * all → (f ≤ s) × (s - f ≤ n)
-bounds s all f r n h e k =
-    let a : f ≤ s = le_of_mul-le-mul_right (omega (arith, e)) h in
-    (a, le_of_mul-le-mul_right (omega (arith, e, k, split s f all a)) h)
 
 -- the parts, rounded down, are at most s, and leave at most 1 for each member
 pub left_bounds : (s all : ℕ) (ms : List Member) → 0 < all → all ≡ sum_by (λ m. m.1) ms → (sum_by (λ m. s * m.1 / all) ms ≤ s) × (s - sum_by (λ m. s * m.1 / all) ms ≤ length ms)

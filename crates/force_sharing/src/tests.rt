@@ -21,3 +21,13 @@ fn the_greatest_rests_are_served(rt: HostRuntime) -> Result<(), Fail> {
     assert_eq!(rt; out, [1, 3, 6]);
     Ok(())
 }
+
+// Of 2 among masses of 3 and 1: 6 and 2 quarters, whose rests are both 2, and 1 is left: for the smaller id, not the smaller mass.
+#[test]
+fn equal_rests_are_served_by_id(rt: HostRuntime) -> Result<(), Fail> {
+    let mut scratch = Scratch::with_room(rt.alloc(), 2)?;
+    let mut out = [0i128; 2];
+    share(2, &[(1, 3), (2, 1)], &mut out, &mut scratch);
+    assert_eq!(rt; out, [2, 0]);
+    Ok(())
+}

@@ -2,8 +2,8 @@
 use Rattle.std.specs.Prelude.{ℕ, ◌<◌, ◌==◌, ◌≡◌, ◌≢◌, List, [], ◌∷◌, length, map, slice_index, slice_index_or, Some, None, if◌then◌else◌}
 use Rattle.std.specs.List.Sorted.{IsStrictlyIncreasing}
 use Rattle.fixed_point.specs.declared.V3.{V3}
-use Rattle.fixed_point.specs.Vectors.{origin, plus, negative}
-use Rattle.nbody_model.specs.Bodies.{BodyData, MotionData, has}
+use Rattle.fixed_point.specs.Vectors.{origin, plus, negative, sum_of}
+use Rattle.nbody_model.specs.Bodies.{BodyData, MotionData, has, only}
 use Rattle.nbody_model.specs.Steps.{kicked_by, kicked_bodies, axis_out, first_out}
 use Rattle.kick_drift.specs.declared.kicks.KickErr.{KickErr}
 use Rattle.kick_drift.specs.declared.kicks.KickErr.TheVariants.{MomRange}
@@ -40,6 +40,10 @@ change_of P f F g b = less_fast F g b.id (force_for P f b.id)
 -- the bodies after a kick by h of those at the places whole, by their forces f, less the forces g of those at the places fast
 abbrev pub after_kick : ℕ → List ℕ → List V3 → List ℕ → List V3 → List BodyData → List BodyData
 after_kick h whole f fast g B = kicked_bodies h (ids_at B whole) (change_of (ids_at B whole) f (ids_at B fast) g) B
+
+-- the changes of a kick add up to zero
+abbrev pub CancelOut : List ℕ → List V3 → List ℕ → List V3 → List BodyData → Type 0
+CancelOut whole f fast g B = sum_of (change_of (ids_at B whole) f (ids_at B fast) g) (only B (ids_at B whole)) ≡ origin
 
 -- a motion after a kick
 abbrev pub kicked_motion : ℕ → MotionData → V3 → MotionData

@@ -1,10 +1,10 @@
 // The kick of a part of a set's bodies.
 ghost use Rattle.std.specs.Prelude.{◌≡◌, ◌≤◌, ◌<◌, ◌^◌, ℕ, All, None, Some, IfErr, OnErr, OnOk, IfOk, length, slice_index_or};
 ghost use Rattle.fixed_point.specs.Vectors.{IsAtMost};
-ghost use Rattle.nbody_model.specs.Bodies.{BodyData, only};
+ghost use Rattle.nbody_model.specs.Bodies.{BodyData, only, total};
 ghost use Rattle.nbody_model.specs.Steps.{axis_out, first_out, kicked_by};
 ghost use Rattle.particle_set.specs.Motions.{with_motion_at};
-ghost use Rattle.kick_drift.specs.Parts.{AreAscending, IsRefusal, IsRefusalOf, StayInRange, after_kick, ids_at, kicked_motion};
+ghost use Rattle.kick_drift.specs.Parts.{AreAscending, CancelOut, IsRefusal, IsRefusalOf, StayInRange, after_kick, ids_at, kicked_motion};
 
 use crate::change::change_at;
 use crate::ids::ids_ascend;
@@ -103,8 +103,9 @@ fn put_all(set: &mut BodySet, whole: &[u32], f: &[V3], fast: &[u32], g: &[V3], h
 }
 
 /// Kicks the bodies at the ascending places `whole` by h times their change: the force in `f`, less that in `g` where the body
-/// stands at one of the ascending places `fast`. Forces are given in the order of their places, each below 2^118. Nothing
-/// changes where a momentum would leave its range: the answer is then the least such id, and its least such axis.
+/// stands at one of the ascending places `fast`. Forces are given in the order of their places, each at most 2^118 in size. Where
+/// the changes add up to zero, the momentum of all bodies together stays. Nothing changes where a momentum would leave its range:
+/// the answer is then the least such id, and its least such axis.
 pub fn kick(
     set: &mut BodySet,
     whole: &[u32],
@@ -123,6 +124,7 @@ pub fn kick(
     requires high { h ≤ 2 ^ 19 }
     ensures kicked { OnOk result (set.new ≡ after_kick h whole.now f.now fast.now g.now set.old) }
     ensures in_range { OnOk result (first_out (only (after_kick h whole.now f.now fast.now g.now set.old) (ids_at set.old whole.now)) ≡ None) }
+    ensures total { OnOk result (CancelOut whole.now f.now fast.now g.now set.old → total set.new ≡ total set.old) }
     ensures refused { IfErr result (IsRefusal (only (after_kick h whole.now f.now fast.now g.now set.old) (ids_at set.old whole.now))) }
     ensures unchanged { OnErr result (set.new ≡ set.old) }
 {

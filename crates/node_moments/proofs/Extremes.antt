@@ -7,6 +7,7 @@ use Rattle.cell_space.proofs.Cells.{both_equal, same_place-exact}
 use Rattle.nbody_model.specs.Bodies.{BodyData}
 use Rattle.nbody_model.specs.Nodes.{positions_of, at_one_place}
 use Rattle.model_laws.proofs.Among.{Among, among-all}
+use Rattle.model_laws.proofs.Firsts.{position_among}
 use Rattle.node_moments.specs.Sums.{least, greatest, at_x, at_y, at_z}
 
 pub min_below : (k : ℕ) (xs : List ℕ) → fold min k xs ≤ k
@@ -57,14 +58,9 @@ all_same : (p : Position) (ms : List BodyData) → ((b : BodyData) → Among b m
 all_same p [] h = refl
 all_same p (m ∷ ms) h = and_from (same_place p m.motion.pos) (list_all (same_place p) (positions_of ms)) ((same_place-exact p m.motion.pos).1 (h m (inl refl))) (all_same p ms (λ b j. h b (inr j)))
 
-among_pos : (b : BodyData) (ms : List BodyData) → Among b ms → Among b.motion.pos (positions_of ms)
-among_pos b [] k = absurd k
-among_pos b (m ∷ ms) (inl e) = inl (ap (λ t. t.motion.pos) e)
-among_pos b (m ∷ ms) (inr j) = inr (among_pos b ms j)
-
 each_same : (m : BodyData) (ms : List BodyData) → at_one_place (positions_of (m ∷ ms)) ≡ true → (b : BodyData) → Among b (m ∷ ms) → m.motion.pos ≡ b.motion.pos
 each_same m ms h b (inl e) = sym (ap (λ t. t.motion.pos) e)
-each_same m ms h b (inr k) = (same_place-exact m.motion.pos b.motion.pos).0 (among-all (same_place m.motion.pos) b.motion.pos (positions_of ms) h (among_pos b ms k))
+each_same m ms h b (inr k) = (same_place-exact m.motion.pos b.motion.pos).0 (among-all (same_place m.motion.pos) b.motion.pos (positions_of ms) h (position_among b ms k))
 
 -- the test by the extremes
 abbrev pub is_one : List BodyData → Bool

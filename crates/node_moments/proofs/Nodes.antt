@@ -1,5 +1,5 @@
 -- The moments of a node, by the sums over its members.
-use Rattle.std.proofs.Common.{◌≡◌, ℕ, ◌+◌, ◌-◌, ◌/◌, ◌<◌, ◌≤◌, ◌^◌, Bool, true, false, cond, List, [], ◌∷◌, slice_index, refl, ap, sym, ◌∙◌, subst, arith, inl, inr, pos, ◌-ℤ◌}
+use Rattle.std.proofs.Common.{◌≡◌, ℕ, ◌+◌, ◌-◌, ◌/◌, ◌<◌, ◌≤◌, ◌^◌, true, List, [], ◌∷◌, slice_index, refl, ap, sym, ◌∙◌, subst, arith, inl, pos, ◌-ℤ◌}
 use Rattle.std.specs.List.{AllByRecursion, filter}
 use Rattle.cell_space.specs.Cells.{Position, CellData, InBox, contains, corner, width_of}
 use Rattle.nbody_model.specs.Bodies.{BodyData}
@@ -7,9 +7,10 @@ use Rattle.nbody_model.specs.Setups.{SetupData, AreSoftenings, IsSoftening}
 use Rattle.nbody_model.specs.Nodes.{members, positions_of, at_one_place, is_node, is_leaf}
 use Rattle.nbody_model.specs.Moments.{MomentsData, mass_of, centre_of, quad_of, moment_of, moments}
 use Rattle.model_laws.specs.Laws.{AreBodies}
-use Rattle.model_laws.proofs.Among.{Among, Witness, any-witness, among-kept, each-among}
-use Rattle.model_laws.proofs.Cancel.{BodyAt, body_at, heavy_filter}
-use Rattle.model_laws.proofs.Centres.{member_in, centre_inside, mean_between}
+use Rattle.model_laws.proofs.Among.{Among, among-kept, each-among}
+use Rattle.model_laws.proofs.Centres.{member_in, member_positions, node_mass, centre_inside, mean_between}
+use Rattle.model_laws.proofs.PairLimits.{mass_is}
+use Rattle.model_laws.proofs.Pairs.{all_among}
 use Rattle.model_laws.proofs.Second.{second_bounded}
 use Rattle.node_moments.specs.Sums.{RawData, raw_of, first, second, greatest, from_x, from_y, from_z, at_x, at_y, at_z}
 use Rattle.node_moments.specs.Computed.{moments_by, about}
@@ -17,26 +18,6 @@ use Rattle.node_moments.specs.Conditions.{IsSumOf, IsOfNode, IsMoments}
 use Rattle.node_moments.proofs.One.{above_corner}
 use Rattle.node_moments.proofs.Centred.{mean_from, moment_from}
 use Rattle.node_moments.proofs.Extremes.{is_one, leaf_by, max_high, some_of}
-
-pub all_among : (P : BodyData → Type 0) (xs : List BodyData) → ((x : BodyData) → Among x xs → P x) → AllByRecursion P xs
-all_among P [] h = tt
-all_among P (x ∷ xs) h = (h x (inl refl), all_among P xs (λ y k. h y (inr k)))
-
-kept_map_step : (t : Position → Bool) (b : BodyData) (ys : List BodyData) (zs : List Position) (s : Bool) → positions_of ys ≡ zs → positions_of (cond s (b ∷ ys) ys) ≡ cond s (b.motion.pos ∷ zs) zs
-kept_map_step t b ys zs true e = ap (λ u. b.motion.pos ∷ u) e
-kept_map_step t b ys zs false e = e
-
-member_positions : (B : List BodyData) (c : CellData) → positions_of (members B c) ≡ filter (contains c) (positions_of B)
-member_positions [] c = refl
-member_positions (b ∷ bs) c = kept_map_step (contains c) b (members bs c) (filter (contains c) (positions_of bs)) (contains c b.motion.pos) (member_positions bs c)
-
--- a node has mass
-pub node_mass : (B : List BodyData) → AllByRecursion (λ b. 1 ≤ b.mass) B → (c : CellData) → is_node (positions_of B) c ≡ true → 0 < mass_of (members B c)
-unfolding is_node
-node_mass B heavy c h =
-    let w : Witness (contains c) (positions_of B) = any-witness (contains c) (positions_of B) h in
-    let b : BodyAt w.it B = body_at w.it B w.«in» in
-    heavy_filter (λ b. contains c b.motion.pos) B b.it heavy b.«in» (ap (contains c) b.at ∙ w.passes)
 
 leaf_some : (ms : List BodyData) → 0 < mass_of ms → ((b : BodyData) → Among b ms → InBox b.motion.pos) → is_one ms ≡ at_one_place (positions_of ms)
 leaf_some [] some h = absurd (omega (arith, some))
@@ -99,10 +80,6 @@ some_mass r h =
     let u : 0 < mass_of (members h.all r.cell) = node_mass h.all h.sums.bodies.heavy r.cell h.sums.node in
     omega (arith, e, u)
 
-moments_mass : (s : SetupData) (B : List BodyData) (c : CellData) → (moments s B c).mass ≡ mass_of (members B c)
-unfolding moments
-moments_mass s B c = refl
-
 centre_in_box : (s : SetupData) (B : List BodyData) (c : CellData) → AreBodies B → is_node (positions_of B) c ≡ true → InBox (moments s B c).centre
 unfolding moments
 centre_in_box s B c a n =
@@ -136,8 +113,8 @@ keep : (s : SetupData) (B : List BodyData) (r : RawData) → IsSumOf s B r → r
 keep s B r h light =
     let e : r.mass ≡ mass_of (members B r.cell) = ap (λ t. t.mass) h.is ∙ cell_of_raw s.soft r.cell (members B r.cell) in
     record {
-      heavy = omega (arith, moments_mass s B r.cell, node_mass B h.bodies.heavy r.cell h.node);
-      light = omega (arith, moments_mass s B r.cell, e, light);
+      heavy = omega (arith, mass_is s B r.cell, node_mass B h.bodies.heavy r.cell h.node);
+      light = omega (arith, mass_is s B r.cell, e, light);
       softening = soft_of_node s B r.cell h.bodies h.node h.softenings h.kinds;
       inside = ap (λ c. contains c (moments s B r.cell).centre) (cell_is s B r.cell) ∙ centre_inside s B h.bodies r.cell h.node;
       small = second_bounded s B h.bodies r.cell h.node;

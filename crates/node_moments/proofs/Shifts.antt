@@ -10,13 +10,14 @@ use Rattle.nbody_model.specs.Nodes.{members}
 use Rattle.nbody_model.specs.Moments.{mass_of}
 use Rattle.model_laws.proofs.Among.{Among, each-among}
 use Rattle.model_laws.proofs.Centres.{member_in}
+use Rattle.model_laws.proofs.Pairs.{all_among}
 use Rattle.node_moments.specs.Sums.{RawData, IsRaw, raw_of, first, second, from_x, from_y, from_z, at_x, at_y, at_z, least}
 use Rattle.node_moments.specs.Shifted.{first_from, second_from, added, shifted}
 use Rattle.node_moments.specs.Conditions.{IsSumOf, IsOfNode}
 use Rattle.node_moments.proofs.One.{above_corner, above_corners}
 use Rattle.node_moments.proofs.Centred.{all_first}
 use Rattle.node_moments.proofs.Extremes.{min_of}
-use Rattle.node_moments.proofs.Nodes.{all_among, member_of}
+use Rattle.node_moments.proofs.Nodes.{member_of}
 
 one_second : (m p q a b : ℕ) → a ≤ p → b ≤ q → m * (p * q) ≡ m * ((p - a) * (q - b)) + (a * (m * (q - b)) + b * (m * (p - a)) + m * (a * b))
 one_second m p q a b h k =

@@ -3,3 +3,4 @@ pub mod RowLemmas
 pub mod Least
 pub mod Refusals
 pub mod OneSet
+pub mod StoredRows

@@ -1,3 +1,4 @@
 pub mod Lent
 pub mod Motions
 pub mod Rows
+pub mod Stored

@@ -5,9 +5,11 @@ mod body_set;
 mod faults;
 mod lent;
 mod row;
+mod stored;
 
 pub use body_set::BodySet;
 pub use row::{Row, SetErr};
+pub use stored::are_storable;
 
 #[cfg(test)]
 mod tests;

@@ -1,3 +1,4 @@
+ghost use Rattle.std.specs.Prelude.{◌≤◌};
 ghost use Rattle.particle_set.specs.Rows.{HasKind};
 
 use super::*;
@@ -61,5 +62,41 @@ fn a_lent_motion_changes_one_body(rt: HostRuntime) -> Result<(), Fail> {
     assert_eq!(rt; set.get(1).motion.mom(), [5, -6, 7]);
     assert_eq!(rt; set.get(0).motion.pos(), [0, 0, 0]);
     assert_eq!(rt; set.total_momentum(), [5, -6, 7]);
+    Ok(())
+}
+
+fn of_kind(kind: u8, id: u64, mass: u32) -> Row
+    requires low { 1 ≤ kind }
+    requires high { kind ≤ 5 }
+    ensures { HasKind result }
+{
+    Row {
+        kind,
+        ..moving(id, mass, [1, -2, 3])
+    }
+}
+
+#[test]
+fn a_copy_has_the_same_bodies(rt: HostRuntime) -> Result<(), Fail> {
+    let alloc = rt.alloc();
+    let rows = vec![in alloc;
+        of_kind(5, 9, 10),
+        of_kind(2, 4, 20),
+        of_kind(3, 7, 30),
+        of_kind(1, 8, 40),
+        of_kind(4, 2, 50),
+    ]?;
+    let set = BodySet::from_list(alloc, rows)?;
+    let copied = set.copy(alloc)?;
+    for these in [set.bodies(), copied.bodies()] {
+        let mut seen = Vec::new(alloc);
+        for body in these {
+            seen.push((body.id, body.kind, body.mass))?;
+            assert_eq!(rt; body.motion.pos(), [0, 0, 0]);
+            assert_eq!(rt; body.motion.mom(), [1, -2, 3]);
+        }
+        let want = [(2, 4, 50), (4, 2, 20), (7, 3, 30), (8, 1, 40), (9, 5, 10)];
+        assert!(rt; seen.as_slice() == want.as_slice());
+    }
     Ok(())
 }
