@@ -175,7 +175,7 @@ onwards plan stop (suc n) low known d timed inc τ h =
 
 -- ---- from a state inside a base step
 
-led_none : (s : Stepped) → led_step [] s ≡ s
+pub led_none : (s : Stepped) → led_step [] s ≡ s
 led_none (Going p) = refl
 led_none (Refused p e) = refl
 led_none (Resting p tick Fs) = refl

@@ -42,7 +42,7 @@ asked_alike false tick d e h = h
 asked_alike true tick d e h = record { state = h.state; snapshots = h.snapshots; trail = h.trail; states = h.states; questions = ap (λ qs. qs ++ tick ∷ []) h.questions; end = h.end }
 
 -- a synchronisation by its tests
-abbrev synced_with : (due asks kept stops : Bool) → ℕ → SessionData → SessionData
+abbrev pub synced_with : (due asks kept stops : Bool) → ℕ → SessionData → SessionData
 synced_with due asks kept stops tick d =
     let shown = with_snapshot due d in
     let told : SessionData = cond asks (record shown { questions = shown.questions ++ tick ∷ [] }) shown in

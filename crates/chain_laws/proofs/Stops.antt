@@ -309,7 +309,7 @@ round_stop : (r : Rules) (stop : Option ℕ) (σ : StateData) (bin : ℕ) (P F :
 unfolding round
 round_stop r stop σ bin P F Gs e f g p = λ i. stop_step r stop σ.tick bin (f i) (e i) (g i) p
 
-pub fold_rounds : (r : Rules) (stop : Option ℕ) (σ : StateData) (P : List ℕ) (c : ℕ) (Fs : List (List ℕ)) → Tells r.gravity.setup σ P c Fs → c + length Fs ≡ r.gravity.setup.top_bin + 1 → (s : Stepped) →
+fold_rounds : (r : Rules) (stop : Option ℕ) (σ : StateData) (P : List ℕ) (c : ℕ) (Fs : List (List ℕ)) → Tells r.gravity.setup σ P c Fs → c + length Fs ≡ r.gravity.setup.top_bin + 1 → (s : Stepped) →
     fold (λ step bin. step >>= (λ q. round r stop σ bin q)) s (range_with_len c (length Fs)) ≡ rounds r stop σ.tick P c Fs s
 fold_rounds r stop σ P c [] n e s = refl
 fold_rounds r stop σ P c (F ∷ Fs) n e s =
@@ -318,6 +318,17 @@ fold_rounds r stop σ P c (F ∷ Fs) n e s =
     ap (λ t. fold (λ step bin. step >>= (λ q. round r stop σ bin q)) t (range_with_len (c + 1) (length Fs)))
     (bind_same s (λ q. round r stop σ c q) (λ q. stop_step r stop σ.tick c (head_or P Fs) F (F ∷ Fs) q) (round_stop r stop σ c (head_or P Fs) F (F ∷ Fs) n.0 n.1 parts)) ∙
     fold_rounds r stop σ P (c + 1) Fs n.2 (omega (arith, e)) (s >>= (λ q. stop_step r stop σ.tick c (head_or P Fs) F (F ∷ Fs) q))
+
+-- the rest of a base step is its rounds, behind the force that it asks first
+pub continue_rounds : (r : Rules) (stop : Option ℕ) (σ : StateData) (P : List ℕ) (Fs : List (List ℕ)) → Tells r.gravity.setup σ P (low_zeros σ.tick + 1) Fs → low_zeros σ.tick + length Fs ≡ r.gravity.setup.top_bin → (p : Progress) →
+    rounds r stop σ.tick P (low_zeros σ.tick + 1) Fs (Going (ask_if true (unfinished_fast r.gravity.setup σ (low_zeros σ.tick + 1)) p)) ≡ continue r stop σ p
+unfolding continue
+continue_rounds r stop σ P Fs told count p =
+    let s = r.gravity.setup in
+    let v = low_zeros σ.tick in
+    let z = ask_if true (unfinished_fast s σ (v + 1)) p in
+    let len : length Fs ≡ s.top_bin - v = omega (arith, count) in
+    sym (fold_rounds r stop σ P (v + 1) Fs told (omega (arith, count)) (Going z)) ∙ ap (λ k. fold (λ step bin. step >>= (λ q. round r stop σ bin q)) (Going z) (range_with_len (v + 1) k)) len
 
 -- a resting point is an odd multiple
 record OddPart (u v : ℕ) : Type 0 where
@@ -359,11 +370,9 @@ continue_agrees r w σ P Fs told count small inner p =
     let v = low_zeros u in
     let z = ask_if true (unfinished_fast s σ (v + 1)) p in
     let len : length Fs ≡ s.top_bin - v = omega (arith, count) in
-    let e : (stop : Option ℕ) → rounds r stop u P (v + 1) Fs (Going z) ≡ fold (λ step bin. step >>= (λ q. round r stop σ bin q)) (Going z) (range_with_len (v + 1) (s.top_bin - v)) =
-    λ stop. sym (fold_rounds r stop σ P (v + 1) Fs told (omega (arith, count)) (Going z)) ∙ ap (λ k. fold (λ step bin. step >>= (λ q. round r stop σ bin q)) (Going z) (range_with_len (v + 1) k)) len in
     let rest : rest_of_steps r u P (v + 1) Fs (Going z) ≡ fold (λ step bin. step >>= (λ q. round r None σ bin q)) (Going z) (range_with_len (v + 1) (s.top_bin - v)) =
     sym (fold_rests r σ P (v + 1) Fs told (Going z)) ∙ ap (λ k. fold (λ step bin. step >>= (λ q. round r None σ bin q)) (Going z) (range_with_len (v + 1) k)) len in
     let a = rounds_agree r u w P v Fs (inside_first u (omega (arith, inner, small))) (omega arith) (omega (arith, count, small)) z in
     subst (λ top. AgreesAgain r u w top P (fold (λ step bin. step >>= (λ q. round r (Some w) σ bin q)) (Going z) (range_with_len (v + 1) (s.top_bin - v))) (fold (λ step bin. step >>= (λ q. round r None σ bin q)) (Going z) (range_with_len (v + 1) (s.top_bin - v)))) count
-    (subst (λ y. AgreesAgain r u w (v + length Fs) P y (fold (λ step bin. step >>= (λ q. round r None σ bin q)) (Going z) (range_with_len (v + 1) (s.top_bin - v)))) (e (Some w))
+    (subst (λ y. AgreesAgain r u w (v + length Fs) P y (fold (λ step bin. step >>= (λ q. round r None σ bin q)) (Going z) (range_with_len (v + 1) (s.top_bin - v)))) (continue_rounds r (Some w) σ P Fs told count p)
     (subst (λ y. AgreesAgain r u w (v + length Fs) P (rounds r (Some w) u P (v + 1) Fs (Going z)) y) rest a))
