@@ -174,7 +174,7 @@ kick_ends : (B : List BodyData) (p q : Progress) (bin tick : ℕ) (out : Option 
 kick_ends B p q bin tick None h g = g refl
 kick_ends B p q bin tick (Some first) h g = h
 
-preserved : (r : Rules) (B : List BodyData) → IsPreserved r (λ p. AreSafe B p.bodies)
+pub preserved : (r : Rules) (B : List BodyData) → IsPreserved r (λ p. AreSafe B p.bodies)
 unfolding kick
 preserved r B = record {
   binned = λ F p s. s;

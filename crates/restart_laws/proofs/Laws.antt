@@ -22,12 +22,12 @@ use Rattle.restart_laws.specs.Kept.{RestartFilesAreRead, RestartFilesGoOn}
 use Rattle.restart_laws.proofs.Bodies.{still_valid, together}
 use Rattle.restart_laws.proofs.Sessions.{IsFine, IsGood, IsGoodFile, IsOver, run_keeps}
 
-found : {X : Type 0} (P : X → Type 0) (x : X) (xs : List X) → AllByRecursion P xs → IsOneOf x xs → P x
+pub found : {X : Type 0} (P : X → Type 0) (x : X) (xs : List X) → AllByRecursion P xs → IsOneOf x xs → P x
 found P x [] a h = absurd h
 found P x (y ∷ ys) a (inl e) = subst P (sym e) a.0
 found P x (y ∷ ys) a (inr h) = found P x ys a.1 h
 
-good_spells : (s : SetupData) (B : List BodyData) (σ : StateData) → IsSetup s → IsValid B → IsGood s B σ → Spell (restart_text σ s) σ s
+pub good_spells : (s : SetupData) (B : List BodyData) (σ : StateData) → IsSetup s → IsValid B → IsGood s B σ → Spell (restart_text σ s) σ s
 good_spells s B σ h v g = reads_written σ s (still_valid B σ.bodies g.safe v) (together IsStorable σ.bodies g.safe.each) g.room h g.goes
 
 pub are_read : RestartFilesAreRead
@@ -68,7 +68,7 @@ over_spells_nothing σ s v r h o ρ t k =
 
 -- ---- whatever spells the state of a run
 
-spelled_is : (s : SetupData) (B : List BodyData) (τ : StateData) → IsSetup s → IsValid B → IsFine s B τ → (ρ : StateData) (t : SetupData) → Spell (restart_text (kept τ) s) ρ t → ρ ≡ kept τ
+pub spelled_is : (s : SetupData) (B : List BodyData) (τ : StateData) → IsSetup s → IsValid B → IsFine s B τ → (ρ : StateData) (t : SetupData) → Spell (restart_text (kept τ) s) ρ t → ρ ≡ kept τ
 spelled_is s B τ h v f ρ t k = by f.goes
   where
     by : IsKept s (kept τ) ⊎ IsOver s τ → ρ ≡ kept τ

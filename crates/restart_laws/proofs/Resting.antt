@@ -16,12 +16,12 @@ Coarse low bin (Going q) = ⊤
 Coarse low bin (Refused q e) = ⊤
 Coarse low bin (Resting q tick Fs) = length Fs + low ≤ bin
 
-moving : (low bin : ℕ) (s : Stepped) → Moves s → Coarse low bin s
+pub moving : (low bin : ℕ) (s : Stepped) → Moves s → Coarse low bin s
 moving low bin (Going q) m = tt
 moving low bin (Refused q e) m = tt
 moving low bin (Resting q tick Fs) m = absurd m
 
-bound : (low bin : ℕ) (s : Stepped) (f : Progress → Stepped) → Coarse low bin s → ((q : Progress) → Coarse low bin (f q)) → Coarse low bin (s >>= f)
+pub bound : (low bin : ℕ) (s : Stepped) (f : Progress → Stepped) → Coarse low bin s → ((q : Progress) → Coarse low bin (f q)) → Coarse low bin (s >>= f)
 bound low bin (Going q) f h g = g q
 bound low bin (Refused q e) f h g = h
 bound low bin (Resting q tick Fs) f h g = h
@@ -35,7 +35,7 @@ rest_or_go : (low bin : ℕ) (p : Progress) (tick : ℕ) (b : Bool) → low ≤ 
 rest_or_go low bin p tick true l = omega (arith, l)
 rest_or_go low bin p tick false l = tt
 
-rests_coarse : (low bin : ℕ) (stop : Option ℕ) (tick : ℕ) (p : Progress) → low ≤ bin → Coarse low bin (rest stop tick p)
+pub rests_coarse : (low bin : ℕ) (stop : Option ℕ) (tick : ℕ) (p : Progress) → low ≤ bin → Coarse low bin (rest stop tick p)
 rests_coarse low bin None tick p l = tt
 rests_coarse low bin (Some s) tick p l = rest_or_go low bin (tell (Rested tick) p) tick (s == tick) l
 

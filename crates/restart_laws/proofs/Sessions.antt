@@ -12,10 +12,11 @@ use Rattle.nbody_model.specs.Tables.{Rules}
 use Rattle.nbody_model.specs.Evolve.{Progress, Stepped, Going, Refused, Resting, is_empty, ask_if, depths_of, evolve}
 use Rattle.nbody_model.specs.States.{StateData, low_zeros}
 use Rattle.nbody_model.specs.Continue.{continue}
-use Rattle.nbody_model.specs.Session.{Plan, Written, Snapshot, Restart, SessionData, Done, Stopped, OutOfRange, raised64, is_running, is_stop, with_snapshot, with_restart, is_due, is_kept, synchronised, advanced, rested, with_trail, base_step, is_done, session_from, session, kept}
+use Rattle.nbody_model.specs.Session.{Plan, Written, Snapshot, Restart, SessionData, Done, raised64, is_running, is_stop, with_snapshot, with_restart, is_due, is_kept, synchronised, advanced, rested, with_trail, base_step, is_done, session_from, session, kept}
 use Rattle.model_laws.specs.Preserved.{Holds}
 use Rattle.model_laws.specs.Rests.{Agrees}
 use Rattle.model_laws.proofs.Rests.{Moves, evolve_moves, evolve_agrees}
+use Rattle.model_laws.proofs.Resumed.{onward}
 use Rattle.restart_files.specs.Stored.{AreStorable, IsKept}
 use Rattle.restart_laws.specs.Kept.{IsFirst}
 use Rattle.restart_laws.proofs.Bodies.{AreSafe, evolve_safe, safe_first}
@@ -54,15 +55,15 @@ all_more P (y ∷ ys) x a h = (a.0, all_more P ys x a.1 h)
 
 -- ---- between base steps
 
-record Stands (s : SetupData) (B : List BodyData) (σ : StateData) : Type 0 where
-  safe : AreSafe B σ.bodies
-  depths : σ.depths ≡ []
-  tick : σ.tick ≡ σ.steps * 2 ^ s.top_bin
-  near : σ.tick < s.time_max + 2 ^ s.top_bin
-  next_snapshot : σ.next_snapshot < 2 ^ 64
-  next_restart : σ.next_restart < 2 ^ 64
-  kicks : σ.kicks < 2 ^ 64
-  interactions : σ.interactions < 2 ^ 128
+pub record Stands (s : SetupData) (B : List BodyData) (σ : StateData) : Type 0 where
+  pub safe : AreSafe B σ.bodies
+  pub depths : σ.depths ≡ []
+  pub tick : σ.tick ≡ σ.steps * 2 ^ s.top_bin
+  pub near : σ.tick < s.time_max + 2 ^ s.top_bin
+  pub next_snapshot : σ.next_snapshot < 2 ^ 64
+  pub next_restart : σ.next_restart < 2 ^ 64
+  pub kicks : σ.kicks < 2 ^ 64
+  pub interactions : σ.interactions < 2 ^ 128
 
 -- how long a base step is at most
 width_most : (n : ℕ) → n ≤ 20 → 2 ^ n < 2 ^ 21
@@ -89,6 +90,30 @@ good_of s B σ h k run = record { safe = k.safe; room = room_of s B σ h k; goes
 fine_by : (s : SetupData) (B : List BodyData) (σ : StateData) → IsSetup s → Stands s B σ → (run : Bool) → nat_lt σ.tick s.time_max ≡ run → IsFine s B σ
 fine_by s B σ h k true run = record { safe = k.safe; room = room_of s B σ h k; goes = inl (good_of s B σ h k run).goes }
 fine_by s B σ h k false run = record { safe = k.safe; room = room_of s B σ h k; goes = inr (record { depths = k.depths; late = ltb-false σ.tick s.time_max run }) }
+
+-- in front of a base step, or inside one
+pub record IsGoing (s : SetupData) (B : List BodyData) (σ : StateData) : Type 0 where
+  pub safe : AreSafe B σ.bodies
+  pub begun : σ.steps * 2 ^ s.top_bin < s.time_max
+  pub next_snapshot : σ.next_snapshot < 2 ^ 64
+  pub next_restart : σ.next_restart < 2 ^ 64
+  pub kicks : σ.kicks < 2 ^ 64
+  pub interactions : σ.interactions < 2 ^ 128
+
+going_on : (s : SetupData) (B : List BodyData) (σ : StateData) → Stands s B σ → σ.tick < s.time_max → IsGoing s B σ
+going_on s B σ k below = record {
+  safe = k.safe;
+  begun = omega (arith, below, k.tick);
+  next_snapshot = k.next_snapshot;
+  next_restart = k.next_restart;
+  kicks = k.kicks;
+  interactions = k.interactions;
+}
+
+few_begun : (s : SetupData) (B : List BodyData) (σ : StateData) → IsSetup s → IsGoing s B σ → σ.steps < 2 ^ 40
+few_begun s B σ h k =
+    let l : σ.steps ≤ σ.steps * 2 ^ s.top_bin = le-mul_of_pos_right σ.steps (pow_pos s.top_bin) in
+    omega (arith, l, k.begun, h.time_high)
 
 -- ---- a synchronisation
 
@@ -151,9 +176,9 @@ saves_where true x asks y f e = refl
 saves_where false x true y f e = f refl
 saves_where false x false y f e = absurd (false≢true e)
 
-record Comes (plan : Plan) (B : List BodyData) (d : SessionData) : Type 0 where
-  stands : Stands plan.rules.gravity.setup B d.state
-  keeps : AreKept plan.rules.gravity.setup B d
+pub record Comes (plan : Plan) (B : List BodyData) (d : SessionData) : Type 0 where
+  pub stands : Stands plan.rules.gravity.setup B d.state
+  pub keeps : AreKept plan.rules.gravity.setup B d
 
 sync_comes : (plan : Plan) (B : List BodyData) (stop before : Option ℕ) (d : SessionData) → IsSetup plan.rules.gravity.setup → Comes plan B d → Comes plan B (synchronised plan stop before d)
 unfolding synchronised
@@ -175,11 +200,11 @@ sync_comes plan B stop before d h k =
 
 -- ---- a base step
 
-record IsInside (top n tick : ℕ) (Fs : List (List ℕ)) : Type 0 where
-  after : n * 2 ^ top < tick
-  before : tick < (n + 1) * 2 ^ top
-  count : low_zeros tick + length Fs ≡ top
-  inner : low_zeros tick < top
+pub record IsInside (top n tick : ℕ) (Fs : List (List ℕ)) : Type 0 where
+  pub after : n * 2 ^ top < tick
+  pub before : tick < (n + 1) * 2 ^ top
+  pub count : low_zeros tick + length Fs ≡ top
+  pub inner : low_zeros tick < top
 
 abbrev Placed : ℕ → ℕ → Stepped → Type 0
 Placed top n (Going p) = ⊤
@@ -205,14 +230,14 @@ evolve_placed : (r : Rules) (stop : Option ℕ) (top n : ℕ) (P : List ℕ) (t 
 evolve_placed r None top n P t p l e = placed_moving top n (evolve r None top P t p) (evolve_moves r top P t p)
 evolve_placed r (Some u) top n P t p l e = placed_agreeing r u top n P (evolve r (Some u) top P t p) (evolve r None top P t p) (evolve_agrees r u top n P t p l e)
 
-record RestsAt (s : SetupData) (B : List BodyData) (σ : StateData) (p : Progress) (tick : ℕ) (Fs : List (List ℕ)) : Type 0 where
-  safe : AreSafe B p.bodies
-  inside : IsInside s.top_bin σ.steps tick Fs
-  coarse : length Fs + s.low_bin ≤ s.top_bin
-  some : 1 ≤ length p.bodies
+pub record RestsAt (s : SetupData) (B : List BodyData) (σ : StateData) (p : Progress) (tick : ℕ) (Fs : List (List ℕ)) : Type 0 where
+  pub safe : AreSafe B p.bodies
+  pub inside : IsInside s.top_bin σ.steps tick Fs
+  pub coarse : length Fs + s.low_bin ≤ s.top_bin
+  pub some : 1 ≤ length p.bodies
 
 -- what is known of a base step, however it ended
-abbrev Facts : SetupData → List BodyData → StateData → Stepped → Type 0
+abbrev pub Facts : SetupData → List BodyData → StateData → Stepped → Type 0
 Facts s B σ (Going p) = AreSafe B p.bodies
 Facts s B σ (Refused p e) = ⊤
 Facts s B σ (Resting p tick Fs) = RestsAt s B σ p tick Fs
@@ -248,18 +273,17 @@ step_facts plan stop known B σ h k =
 
 -- ---- after a whole base step
 
-advanced_stands : (plan : Plan) (B : List BodyData) (σ : StateData) (p : Progress) → IsSetup plan.rules.gravity.setup → Stands plan.rules.gravity.setup B σ → is_running plan σ ≡ true → AreSafe B p.bodies → Stands plan.rules.gravity.setup B (advanced plan p σ)
-advanced_stands plan B σ p h k run safe =
+advanced_stands : (plan : Plan) (B : List BodyData) (σ : StateData) (p : Progress) → IsSetup plan.rules.gravity.setup → IsGoing plan.rules.gravity.setup B σ → AreSafe B p.bodies → Stands plan.rules.gravity.setup B (advanced plan p σ)
+advanced_stands plan B σ p h k safe =
     let s = plan.rules.gravity.setup in
     let y = 2 ^ s.top_bin in
-    let below : σ.tick < s.time_max = ltb-true σ.tick s.time_max run in
-    let e : raised64 σ.steps 1 ≡ σ.steps + 1 = mod-eq_of_lt (omega (arith, few_steps s B σ h k)) in
+    let e : raised64 σ.steps 1 ≡ σ.steps + 1 = mod-eq_of_lt (omega (arith, few_begun s B σ h k)) in
     let f : raised64 σ.steps 1 * y ≡ (σ.steps + 1) * y = ap (λ n. n * y) e in
     record {
       safe = safe;
       depths = refl;
       tick = refl;
-      near = omega (arith, f, below, k.tick);
+      near = omega (arith, f, k.begun);
       next_snapshot = k.next_snapshot;
       next_restart = k.next_restart;
       kicks = mod-lt _ (omega arith);
@@ -272,22 +296,21 @@ depths_most : (Fs : List (List ℕ)) (most : ℕ) → length Fs ≤ most → (B 
 depths_most Fs most l [] = tt
 depths_most Fs most l (b ∷ B) = (omega (arith, l, count_by-le-length (λ F. has F b.id) Fs), depths_most Fs most l B)
 
-whole_part : (n top u : ℕ) → n * 2 ^ top < u → u < (n + 1) * 2 ^ top → n ≡ u / 2 ^ top
+pub whole_part : (n top u : ℕ) → n * 2 ^ top < u → u < (n + 1) * 2 ^ top → n ≡ u / 2 ^ top
 whole_part n top u a b =
     let low : n ≤ u / 2 ^ top = (le-div_iff_mul-le {k = 2 ^ top} (pow_pos top)).1 (omega (arith, a)) in
     let high : u / 2 ^ top < n + 1 = (div-lt_iff_lt-mul {k = 2 ^ top} (pow_pos top)).1 b in
     omega (arith, low, high)
 
-rest_good : (plan : Plan) (B : List BodyData) (σ : StateData) (p : Progress) (tick : ℕ) (Fs : List (List ℕ)) → IsSetup plan.rules.gravity.setup → Stands plan.rules.gravity.setup B σ → is_running plan σ ≡ true →
+rest_good : (plan : Plan) (B : List BodyData) (σ : StateData) (p : Progress) (tick : ℕ) (Fs : List (List ℕ)) → IsSetup plan.rules.gravity.setup → IsGoing plan.rules.gravity.setup B σ →
     RestsAt plan.rules.gravity.setup B σ p tick Fs → IsGood plan.rules.gravity.setup B (kept (rested p tick Fs σ))
-rest_good plan B σ p tick Fs h k run f =
+rest_good plan B σ p tick Fs h k f =
     let s = plan.rules.gravity.setup in
-    let below : σ.tick < s.time_max = ltb-true σ.tick s.time_max run in
     record {
       safe = f.safe;
       room = record {
-        steps = omega (arith, few_steps s B σ h k);
-        tick = omega (arith, f.inside.before, k.tick, below, h.time_high, width_most s.top_bin h.bin_high);
+        steps = omega (arith, few_begun s B σ h k);
+        tick = omega (arith, f.inside.before, k.begun, h.time_high, width_most s.top_bin h.bin_high);
         next_snapshot = k.next_snapshot;
         next_restart = mod-lt (σ.next_restart + 1) (omega arith);
         kicks = mod-lt _ (omega arith);
@@ -297,7 +320,7 @@ rest_good plan B σ p tick Fs h k run f =
         some = f.some;
         each = length-map p.bodies (λ b. _);
         steps = whole_part σ.steps s.top_bin tick f.inside.after f.inside.before;
-        running = omega (arith, below, k.tick);
+        running = k.begun;
         not_finest = omega (arith, f.inside.count, f.coarse);
         not_whole = f.inside.inner;
         shallow = depths_most Fs (s.top_bin - low_zeros tick) (omega (arith, f.inside.count)) p.bodies;
@@ -306,34 +329,30 @@ rest_good plan B σ p tick Fs h k run f =
 
 -- ---- a whole run
 
-abbrev Further : Plan → Option ℕ → List BodyData → ℕ → Type 0
+abbrev pub Further : Plan → Option ℕ → List BodyData → ℕ → Type 0
 Further plan stop B n = (known : Bool) (d : SessionData) → Comes plan B d → AreKept plan.rules.gravity.setup B (session_from n plan stop known d)
 
 later_keeps : (plan : Plan) (B : List BodyData) (b : Bool) (d e : SessionData) → AreKept plan.rules.gravity.setup B d → AreKept plan.rules.gravity.setup B e → AreKept plan.rules.gravity.setup B (cond b d e)
 later_keeps plan B true d e h g = h
 later_keeps plan B false d e h g = g
 
-onward_keeps : (plan : Plan) (stop : Option ℕ) (B : List BodyData) (n : ℕ) → IsSetup plan.rules.gravity.setup → Further plan stop B n → (d : SessionData) → Comes plan B d → is_running plan d.state ≡ true →
+pub onward_keeps : (plan : Plan) (stop : Option ℕ) (B : List BodyData) (n : ℕ) → IsSetup plan.rules.gravity.setup → Further plan stop B n → (d : SessionData) → IsGoing plan.rules.gravity.setup B d.state → AreKept plan.rules.gravity.setup B d →
     (step : Stepped) → Facts plan.rules.gravity.setup B d.state step →
-    AreKept plan.rules.gravity.setup B (elim step [
-      | Going p ↦ let e = synchronised plan stop (Some (d.state.steps * 2 ^ plan.rules.gravity.setup.top_bin)) (record (with_trail p.trail d) { state = advanced plan p d.state }) in cond (is_done e.end) (session_from n plan stop true e) e
-      | Refused p e ↦ record (with_trail p.trail d) { end = OutOfRange e }
-      | Resting p tick Fs ↦ let ρ = rested p tick Fs d.state in with_restart true (record (with_trail p.trail d) { state = ρ; states = d.states ++ ρ ∷ []; end = Stopped })
-    ])
-onward_keeps plan stop B n h more d k run (Going p) f =
+    AreKept plan.rules.gravity.setup B (onward n plan stop d step)
+onward_keeps plan stop B n h more d k keeps (Going p) f =
     let before : Option ℕ = Some (d.state.steps * 2 ^ plan.rules.gravity.setup.top_bin) in
     let x : SessionData = record (with_trail p.trail d) { state = advanced plan p d.state } in
     let e = synchronised plan stop before x in
-    let c : Comes plan B e = sync_comes plan B stop before x h (record { stands = advanced_stands plan B d.state p h k.stands run f; keeps = record { states = k.keeps.states; files = k.keeps.files } }) in
+    let c : Comes plan B e = sync_comes plan B stop before x h (record { stands = advanced_stands plan B d.state p h k f; keeps = record { states = keeps.states; files = keeps.files } }) in
     later_keeps plan B (is_done e.end) (session_from n plan stop true e) e (more true e c) c.keeps
-onward_keeps plan stop B n h more d k run (Refused p x) f = record { states = k.keeps.states; files = k.keeps.files }
-onward_keeps plan stop B n h more d k run (Resting p tick Fs) f =
+onward_keeps plan stop B n h more d k keeps (Refused p x) f = record { states = keeps.states; files = keeps.files }
+onward_keeps plan stop B n h more d k keeps (Resting p tick Fs) f =
     let s = plan.rules.gravity.setup in
     let ρ = rested p tick Fs d.state in
-    let g : IsGood s B (kept ρ) = rest_good plan B d.state p tick Fs h k.stands run f in
+    let g : IsGood s B (kept ρ) = rest_good plan B d.state p tick Fs h k f in
     record {
-      states = all_more (IsFine s B) d.states ρ k.keeps.states (record { safe = g.safe; room = g.room; goes = inl g.goes });
-      files = all_more (IsGoodFile s B) d.written (Restart ρ.next_restart (kept ρ)) k.keeps.files g;
+      states = all_more (IsFine s B) d.states ρ keeps.states (record { safe = g.safe; room = g.room; goes = inl g.goes });
+      files = all_more (IsGoodFile s B) d.written (Restart ρ.next_restart (kept ρ)) keeps.files g;
     }
 
 unless_over : (s : SetupData) (B : List BodyData) (a run : Bool) (d e : SessionData) → a ≡ true → AreKept s B d → (run ≡ true → AreKept s B e) → AreKept s B (cond (a && not run) d e)
@@ -341,18 +360,14 @@ unless_over s B false run d e t k f = absurd (false≢true t)
 unless_over s B true true d e t k f = f refl
 unless_over s B true false d e t k f = k
 
-further : (plan : Plan) (stop : Option ℕ) (B : List BodyData) (n : ℕ) → IsSetup plan.rules.gravity.setup → Further plan stop B n
+pub further : (plan : Plan) (stop : Option ℕ) (B : List BodyData) (n : ℕ) → IsSetup plan.rules.gravity.setup → Further plan stop B n
 unfolding session_from
 further plan stop B zero h known d k = k.keeps
 further plan stop B (suc n) h known d k =
     let s = plan.rules.gravity.setup in
     unless_over s B (is_empty d.state.depths) (is_running plan d.state) d
-    (elim (base_step plan stop known d.state) [
-      | Going p ↦ let e = synchronised plan stop (Some (d.state.steps * 2 ^ s.top_bin)) (record (with_trail p.trail d) { state = advanced plan p d.state }) in cond (is_done e.end) (session_from n plan stop true e) e
-      | Refused p e ↦ record (with_trail p.trail d) { end = OutOfRange e }
-      | Resting p tick Fs ↦ let ρ = rested p tick Fs d.state in with_restart true (record (with_trail p.trail d) { state = ρ; states = d.states ++ ρ ∷ []; end = Stopped })
-    ])
-    (ap is_empty k.stands.depths) k.keeps (λ run. onward_keeps plan stop B n h (further plan stop B n h) d k run (base_step plan stop known d.state) (step_facts plan stop known B d.state h k.stands))
+    (onward n plan stop d (base_step plan stop known d.state))
+    (ap is_empty k.stands.depths) k.keeps (λ run. onward_keeps plan stop B n h (further plan stop B n h) d (going_on s B d.state k.stands (ltb-true d.state.tick s.time_max run)) k.keeps (base_step plan stop known d.state) (step_facts plan stop known B d.state h k.stands))
 
 pub run_keeps : (plan : Plan) (stop : Option ℕ) (σ : StateData) → IsFirst σ → IsSetup plan.rules.gravity.setup → AreKept plan.rules.gravity.setup σ.bodies (session plan false stop σ)
 unfolding session

@@ -1,0 +1,13 @@
+pub mod Undo
+pub mod Fits
+pub mod Forth
+pub mod Steps
+pub mod Runs
+pub mod Told
+pub mod Again
+pub mod Rerun
+pub mod OneStep
+pub mod Computed
+pub mod Filed
+pub mod Others
+pub mod Exact
