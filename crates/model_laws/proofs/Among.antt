@@ -45,7 +45,7 @@ any-among t x [] h k = absurd h
 any-among t x (y ∷ ys) (inl e) k = or_left (t y) (list_any t ys) (ap t (sym e) ∙ k)
 any-among t x (y ∷ ys) (inr h) k = or_right (t y) (list_any t ys) (any-among t x ys h k)
 
-any-append : {X : Type 0} (t : X → Bool) (xs ys : List X) → list_any t (xs ++ ys) ≡ (list_any t xs || list_any t ys)
+pub any-append : {X : Type 0} (t : X → Bool) (xs ys : List X) → list_any t (xs ++ ys) ≡ (list_any t xs || list_any t ys)
 any-append t [] ys = refl
 any-append t (x ∷ xs) ys = ap (λ b. t x || b) (any-append t xs ys) ∙ or_again (t x) (list_any t xs) (list_any t ys)
   where

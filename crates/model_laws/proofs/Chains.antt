@@ -9,7 +9,7 @@ use Rattle.nbody_model.specs.Covers.{Opening, leaf, final, step, chain_apart}
 use Rattle.nbody_model.specs.Walks.{has_member, kids, down, over_both, visits_apart}
 use Rattle.model_laws.proofs.Among.{Among}
 use Rattle.model_laws.proofs.Leaves.{no_member, shallow}
-use Rattle.model_laws.proofs.Sums.{sum_by-one, sum_by-same, sum_by-zero, sum_by-flat_map, sum_by-mapped, sum_by-filtered, sum_by-pick}
+use Rattle.model_laws.proofs.Sums.{sum_by-one, sum_by-same, cond_sum, sum_by-flat_map, sum_by-mapped, sum_by-filtered, sum_by-pick}
 
 -- the pairs whose first cell contains p and whose second contains q, each with its weight
 abbrev pub parts : Position → Position → CellData × CellData → Bool
@@ -40,10 +40,6 @@ cond_swap true true x = refl
 cond_swap true false x = refl
 cond_swap false true x = refl
 cond_swap false false x = refl
-
-cond_sum : {X : Type 0} (b : Bool) (f : X → ℕ) (xs : List X) → sum_by (λ y. cond b (f y) 0) xs ≡ cond b (sum_by f xs) 0
-cond_sum true f xs = refl
-cond_sum false f xs = sum_by-zero (λ y. 0) (λ y. refl) xs
 
 -- of the children that have members, one contains p if c does
 pub kid_sum : (o : Opening) (p : Position) → Among p o.positions → (f : CellData → ℕ) (c : CellData) → c.level < 32 → sum_by (λ d. cond (contains d p) (f d) 0) (kids o c) ≡ cond (contains c p) (f (child c (digit p c.level))) 0

@@ -54,7 +54,7 @@ sum-over_pairs w f h (d ∷ ds) = omega (arith, sum_by-append w (f d) (flat_map 
 sum-over_both : (w : CellData × CellData → ℕ) (h : CellData → CellData → List (CellData × CellData)) (ds es : List CellData) → sum_by w (over_both h ds es) ≡ sum_by (λ d. sum_by (λ e. sum_by w (h d e)) es) ds
 sum-over_both w h ds es = sum_by-flat_map w (λ d. flat_map (h d) es) ds ∙ sum_by-same (λ d. sum_by w (flat_map (h d) es)) (λ d. sum_by (λ e. sum_by w (h d e)) es) (λ d. sum_by-flat_map w (h d) es) ds
 
-turned_cells : (a b : CellData) → same_cell a b ≡ same_cell b a
+pub turned_cells : (a b : CellData) → same_cell a b ≡ same_cell b a
 turned_cells a b = both_equal (same_cell a b) (same_cell b a) (λ e. (same_cell-exact b a).1 (sym ((same_cell-exact a b).0 e))) (λ e. (same_cell-exact a b).1 (sym ((same_cell-exact b a).0 e)))
 
 -- cells with members and nothing in common are different

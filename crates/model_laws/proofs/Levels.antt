@@ -72,7 +72,7 @@ times_filter_step t z x ys false e n h = inside (same_cell x z) refl
     inside true k = let u : t z ≡ false = ap t (sym ((same_cell-exact x z).0 k)) ∙ e in h ∙ cond-false {A = ℕ} (t z) n 0 u ∙ sym (cond-false {A = ℕ} (t z) (1 + n) 0 u)
     inside false k = h ∙ ap (λ m. cond (t z) m 0) (sym (zero-add n))
 
-times-filter : (t : CellData → Bool) (z : CellData) (xs : List CellData) → times same_cell same_cell-exact z (filter t xs) ≡ cond (t z) (times same_cell same_cell-exact z xs) 0
+pub times-filter : (t : CellData → Bool) (z : CellData) (xs : List CellData) → times same_cell same_cell-exact z (filter t xs) ≡ cond (t z) (times same_cell same_cell-exact z xs) 0
 times-filter t z [] = nothing (t z)
   where
     nothing : (b : Bool) → ◌≡◌ {A = ℕ} 0 (cond b 0 0)
@@ -142,7 +142,7 @@ node_once ps p c h k l =
     (any-flat_map (same_cell c) ancestors ps ∙ any-among (λ q. list_any (same_cell c) (ancestors q)) p ps h (ancestor_any p c k (omega arith)))
 
 -- a sum over the cells of a position is one over the nodes that contain it
-over_nodes : (ps : List Position) (p : Position) → Among p ps → (f : CellData → ℤ) → total_by f (ancestors p) ≡ total_by (λ c. cond (contains c p) (f c) (pos 0)) (nodes ps)
+pub over_nodes : (ps : List Position) (p : Position) → Among p ps → (f : CellData → ℤ) → total_by f (ancestors p) ≡ total_by (λ c. cond (contains c p) (f c) (pos 0)) (nodes ps)
 over_nodes ps p h f =
     same_total same_cell same_cell-exact f (ancestors p) (filter (λ c. contains c p) (nodes ps)) (λ z. sym (times_nodes ps p h z))
     ∙ total-filter (λ c. contains c p) f (nodes ps)

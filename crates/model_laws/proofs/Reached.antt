@@ -20,7 +20,7 @@ flat_map-same : {X Y : Type 0} (f g : X → List Y) → ((x : X) → f x ≡ g x
 flat_map-same f g e [] = refl
 flat_map-same f g e (x ∷ xs) = ap (λ t. t ++ flat_map f xs) (e x) ∙ ap (λ t. g x ++ t) (flat_map-same f g e xs)
 
-gives_same : (o : Opening) (x : CellData × CellData) → gives o x ≡ gives_in o (kids o) x
+pub gives_same : (o : Opening) (x : CellData × CellData) → gives o x ≡ gives_in o (kids o) x
 unfolding gives gives_in
 gives_same o x = refl
 

@@ -65,7 +65,7 @@ cond_and true false x = refl
 cond_and false true x = refl
 cond_and false false x = refl
 
-cond_sum : {X : Type 0} (b : Bool) (f : X → ℕ) (xs : List X) → sum_by (λ y. cond b (f y) 0) xs ≡ cond b (sum_by f xs) 0
+pub cond_sum : {X : Type 0} (b : Bool) (f : X → ℕ) (xs : List X) → sum_by (λ y. cond b (f y) 0) xs ≡ cond b (sum_by f xs) 0
 cond_sum true f xs = refl
 cond_sum false f xs = sum_by-zero (λ y. 0) (λ y. refl) xs
 
