@@ -4,7 +4,7 @@ use Rattle.std.specs.List.{filter, flat_map, AllByRecursion}
 use Rattle.std.proofs.lemmas.List.Sums.{sum_by-cons}
 use Rattle.std.proofs.lemmas.Bool.{false≢true}
 use Rattle.cell_space.specs.Cells.{CellData, same_cell, child, below}
-use Rattle.cell_space.proofs.Cells.{same_cell-exact, both_equal}
+use Rattle.cell_space.proofs.Cells.{same_cell-exact}
 use Rattle.nbody_model.specs.Covers.{Opening, leaf, final, distinct}
 use Rattle.nbody_model.specs.Walks.{has_member, kids, down, over_both, over_pairs, gives}
 use Rattle.model_laws.proofs.Among.{Among, among-kept, each-among, each-append, each-flat_map, each-map, each-weaker}

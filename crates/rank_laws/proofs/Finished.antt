@@ -11,7 +11,7 @@ use Rattle.model_laws.proofs.Among.{each-weaker}
 use Rattle.nbody_model.specs.Evolve.{is_empty}
 use Rattle.rank_laws.specs.Protocol.{World, Move, IsRun, state, acting, coming, may_come, enabled, delivered}
 use Rattle.rank_laws.specs.Machine.{blank, Kind, Table, Sums, Want, Members, Parts, Ask, Reply, Message, Rank, Rules, message, is_one, others, to_all, need, knows_both, has_all, ask, ready, may_walk, through, may_add, may_share, Action, Build, Walk, Add, Share, None, chosen, action, is_some, answers_of, kept, machine, start_world, after}
-use Rattle.rank_laws.specs.Runs.{each_with_answers, unsent, received, IsFair, EndsAll, EventsDeliverEach, DeliversEach, IsBounded, KeepsMessages, all_messages, all_needed, is_of}
+use Rattle.rank_laws.specs.Runs.{each_with_answers, unsent, received, IsFair, EndsAll, EventsDeliverEach, DeliversEach, IsBounded, KeepsMessages, all_needed, is_of}
 use Rattle.rank_laws.proofs.Protocol.{IsKept, run_kept, run_got, each-state, each-run, with_answers, over, over-ranks}
 use Rattle.rank_laws.proofs.Machine.{IsSteady, IsGood, chosen-walk, chosen-add, chosen-share, unsent_sum, left}
 use Rattle.rank_laws.proofs.Taken.{first}

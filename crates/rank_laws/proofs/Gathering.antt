@@ -4,7 +4,6 @@ use Rattle.std.proofs.Math.Nat.{zero-div, zero-mod}
 use Rattle.std.specs.List.{filter, flat_map, list_any, AllByRecursion}
 use Rattle.std.proofs.lemmas.Int.{ints}
 use Rattle.std.proofs.lemmas.Bool.{cond-true, cond-false, false≢true, eqb-true, eq-eqb, ne_eqb, le-ltb}
-use Rattle.std.proofs.lemmas.List.Sums.{sum_by-cons}
 use Rattle.fixed_point.specs.declared.V3.{V3}
 use Rattle.cell_space.specs.Cells.{Position, CellData, same_cell, contains}
 use Rattle.cell_space.proofs.Cells.{same_cell-exact}
@@ -14,11 +13,10 @@ use Rattle.nbody_model.specs.Moments.{mass_of}
 use Rattle.nbody_model.specs.Covers.{same_pair, interactions}
 use Rattle.nbody_model.specs.Force.{share, small_share, share_of, node_total, force_at, forces, cells_around, is_served_before}
 use Rattle.model_laws.proofs.Among.{Among, Witness, any-witness, any-among, any-flat_map, among-kept, among-map, each-among, among-le}
-use Rattle.model_laws.proofs.Sums.{sum_by-same, cond_sum}
+use Rattle.model_laws.proofs.Sums.{sum_by-same}
 use Rattle.model_laws.proofs.Signed.{total_by, total-same, total-on, total-zero, total-filter, total-mapped, total-exchange}
 use Rattle.model_laws.proofs.Counts.{times, same_total, any-times}
 use Rattle.model_laws.proofs.Turned.{same_pair-exact}
-use Rattle.model_laws.proofs.Walk.{filter_sum}
 use Rattle.model_laws.proofs.Levels.{nodes, node_once, total_around, times-filter, over_nodes}
 use Rattle.model_laws.proofs.Partners.{Acts, acts}
 use Rattle.model_laws.proofs.Shares.{Ascending, ascending-from}

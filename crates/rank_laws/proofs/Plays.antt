@@ -1,13 +1,12 @@
 -- Plays from one start are one; every play from the start of a machine gives the forces.
 use Rattle.std.proofs.Common.{◌≡◌, ℕ, zero, suc, ◌+◌, ◌*◌, ◌<◌, ◌≤◌, Bool, true, false, cond, ◌&&◌, List, [], ◌∷◌, ◌++◌, length, sum_by, count_by, refl, ap, sym, ◌∙◌, arith, ◌⊎◌, inl, inr}
-use Rattle.std.specs.Prelude.{Option, Some, None as Nothing, slice_get, slice_index_or, nat_lt, replicate}
+use Rattle.std.specs.Prelude.{Option, Some, None as Nothing, slice_get, nat_lt, replicate}
 use Rattle.std.specs.List.{filter, flat_map, range_with_len}
 use Rattle.std.proofs.lemmas.Bool.{false≢true, and_parts, ltb-true, cases_lt}
 use Rattle.std.proofs.lemmas.List.Sums.{sum_by-cons, sum_by-append}
 use Rattle.nbody_model.specs.declared.field.Event.{Event}
 use Rattle.nbody_model.specs.Covers.{orient, interactions}
 use Rattle.model_laws.proofs.Sums.{sum_by-flat_map, sum_by-mapped}
-use Rattle.model_laws.proofs.Among.{Among}
 use Rattle.model_laws.proofs.Walk.{filter_sum}
 use Rattle.model_laws.proofs.Partners.{ones}
 use Rattle.model_laws.proofs.Ranks.{sum_by-on}

@@ -2,7 +2,7 @@
 use Rattle.std.proofs.lemmas.List.{map-append}
 use Rattle.std.proofs.Common.{◌≡◌, ℕ, zero, suc, ◌+◌, ◌<◌, Bool, true, false, cond, List, [], ◌∷◌, ◌++◌, sum_by, refl, ap, ◌∙◌, arith, inl, inr, map, sym}
 use Rattle.std.specs.List.{flat_map}
-use Rattle.std.proofs.lemmas.List.Sums.{sum_by-cons, sum_by-append}
+use Rattle.std.proofs.lemmas.List.Sums.{sum_by-append}
 use Rattle.model_laws.proofs.Among.{Among}
 use Rattle.model_laws.proofs.Sums.{sum_by-flat_map, sum_by-plus}
 use Rattle.model_laws.proofs.Ranks.{sum_by-on}

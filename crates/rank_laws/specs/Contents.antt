@@ -1,6 +1,6 @@
 -- What messages contain: a function of the whole and of a message's kind, sender, receiver and cell, whatever events came
 -- before. What a rank keeps for itself is what it would send to itself.
-use Rattle.std.specs.Prelude.{ℕ, ◌==◌, Bool, ◌||◌, ◌&&◌, not, nat_lt, List, [], ◌∷◌, length, map, filter, Option, Some, None, if◌then◌else◌}
+use Rattle.std.specs.Prelude.{ℕ, ◌==◌, Bool, ◌||◌, ◌&&◌, not, nat_lt, List, [], length, map, filter, Option, Some, None, if◌then◌else◌}
 use Rattle.std.specs.List.{flat_map, list_any}
 use Rattle.fixed_point.specs.declared.V3.{V3}
 use Rattle.fixed_point.specs.Vectors.{sum_of}
