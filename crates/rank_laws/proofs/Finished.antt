@@ -11,10 +11,10 @@ use Rattle.model_laws.proofs.Among.{each-weaker}
 use Rattle.nbody_model.specs.Evolve.{is_empty}
 use Rattle.rank_laws.specs.Protocol.{World, Move, IsRun, state, acting, coming, may_come, enabled, delivered}
 use Rattle.rank_laws.specs.Machine.{blank, Kind, Table, Sums, Want, Members, Parts, Ask, Reply, Message, Rank, Rules, message, is_one, others, to_all, need, knows_both, has_all, ask, ready, may_walk, through, may_add, may_share, Action, Build, Walk, Add, Share, None, chosen, action, is_some, answers_of, kept, machine, start_world, after}
-use Rattle.rank_laws.specs.Runs.{each_with_answers, unsent, received, IsFair, EndsAll, EventsDeliverEach, DeliversEach, IsBounded, KeepsMessages, all_needed, is_of}
+use Rattle.rank_laws.specs.Runs.{all_messages, each_with_answers, unsent, received, IsFair, EndsAll, EventsDeliverEach, DeliversEach, IsBounded, KeepsMessages, MessagesDiffer, all_needed, is_of}
 use Rattle.rank_laws.proofs.Protocol.{IsKept, run_kept, run_got, each-state, each-run, with_answers, over, over-ranks}
 use Rattle.rank_laws.proofs.Machine.{IsSteady, IsGood, chosen-walk, chosen-add, chosen-share, unsent_sum, left}
-use Rattle.rank_laws.proofs.Taken.{first}
+use Rattle.rank_laws.proofs.Taken.{first, mark, message_once}
 use Rattle.rank_laws.proofs.Run.{lawful, start_kept, few_events, each-range, most_events}
 use Rattle.rank_laws.proofs.Numbered.{delivers}
 
@@ -210,6 +210,12 @@ pub is_bounded : IsBounded
 is_bounded rules fair es w run = bounded rules fair es w run
 
 -- ---- at each moment
+
+pub messages_differ : MessagesDiffer
+messages_differ rules fair m =
+    let e : sum_by (mark m) (all_messages rules) ≡ sum_by (with_answers (machine rules) (mark m)) (first rules fair) = with_sum rules (mark m) (first rules fair) in
+    let l : sum_by (with_answers (machine rules) (mark m)) (first rules fair) ≤ 1 = message_once rules fair m.kind m.from m.to m.cell in
+    omega (arith, e, l)
 
 pub keeps_messages : KeepsMessages
 keeps_messages rules fair es w run g =

@@ -3,13 +3,13 @@ use Rattle.std.proofs.Common.{◌≡◌, ℕ, zero, suc, ◌+◌, ◌<◌, ◌�
 use Rattle.std.specs.List.{flat_map, filter, list_any, range_with_len}
 use Rattle.std.proofs.lemmas.Bool.{false≢true, and_from, cond-true, cond-false, eqb-true, eq-eqb, ne_eqb}
 use Rattle.std.proofs.lemmas.List.Sums.{sum_by-cons, sum_by-append}
-use Rattle.cell_space.specs.Cells.{CellData, same_cell}
-use Rattle.model_laws.proofs.Sums.{sum_by-flat_map, sum_by-mapped, sum_by-plus, sum_by-same, sum_by-zero}
+use Rattle.cell_space.specs.Cells.{CellData, root_cell, same_cell}
+use Rattle.model_laws.proofs.Sums.{sum_by-flat_map, sum_by-mapped, sum_by-plus, sum_by-same, sum_by-zero, cond_sum}
 use Rattle.cell_space.proofs.Cells.{same_cell-exact}
 use Rattle.model_laws.proofs.Among.{among-filter}
 use Rattle.model_laws.proofs.Walk.{filter_sum}
 use Rattle.rank_laws.specs.Trees.{all_from}
-use Rattle.rank_laws.specs.Machine.{blank, Kind, Table, Sums, Want, Parts, Reply, Message, Rank, Rules, code_of, same_message, message, is_one, cells_of, others, to_all, need, knows_both, ask, kept, machine}
+use Rattle.rank_laws.specs.Machine.{blank, Kind, Table, Sums, Want, Members, Parts, Ask, Reply, Message, Rank, Rules, code_of, same_message, message, is_one, cells_of, others, to_all, need, knows_both, ask, kept, machine}
 use Rattle.rank_laws.specs.Runs.{unsent, received, IsFair}
 use Rattle.rank_laws.proofs.Waiting.{often, often_some}
 use Rattle.rank_laws.proofs.Machine.{IsSteady, IsGood, among_one, one_among, unsent_sum, left}
@@ -41,6 +41,26 @@ and_weight true y z = at y z
     at false z = omega arith
 and_weight false y z = omega arith
 
+and_first : (x y z : Bool) → cond {A = ℕ} (x && (y && z)) 1 0 ≤ cond x (cond y 1 0) 0
+and_first true true true = omega arith
+and_first true true false = omega arith
+and_first true false z = omega arith
+and_first false y z = omega arith
+
+and_second : (x y z : Bool) → cond {A = ℕ} (x && (y && z)) 1 0 ≤ cond y (cond x 1 0) 0
+and_second true true true = omega arith
+and_second true true false = omega arith
+and_second true false z = omega arith
+and_second false true z = omega arith
+and_second false false z = omega arith
+
+and_outer : (x y z : Bool) → cond {A = ℕ} (x && (y && z)) 1 0 ≤ cond x (cond z 1 0) 0
+and_outer true true true = omega arith
+and_outer true true false = omega arith
+and_outer true false true = omega arith
+and_outer true false false = omega arith
+and_outer false y z = omega arith
+
 range_none : (r f n : ℕ) → r < f → sum_by (λ q. cond {A = ℕ} (eqb r q) 1 0) (range_with_len f n) ≡ 0
 range_none r f zero h = refl
 range_none r f (suc n) h = let off : eqb r f ≡ false = ne_eqb r f (λ e. omega arith) in omega (arith, sum_by-cons (λ q. cond {A = ℕ} (eqb r q) 1 0) f (range_with_len (f + 1) n), cond-false {A = ℕ} (eqb r f) 1 0 off, range_none r (f + 1) n (omega arith))
@@ -58,53 +78,127 @@ module _ (rules : Rules) (fair : IsFair rules) where
   abbrev pub first : List Message
   first = flat_map (λ q. unsent rules q blank) (range_with_len 0 rules.ranks)
 
-  module _ (r : ℕ) (c : CellData) where
-    W : Message → ℕ
-    W x = with_answers (machine rules) (mark (reply rules r c)) x
+  others_once : (t a : ℕ) → sum_by (λ p. cond {A = ℕ} (eqb t p) 1 0) (others rules a) ≤ 1
+  others_once t a = omega (arith, filter-le (λ p. not (eqb p a)) (λ p. cond {A = ℕ} (eqb t p) 1 0) (range_with_len 0 rules.ranks), range_once t 0 rules.ranks)
 
-    none_all : (k : Kind) → ((q p : ℕ) → with_answers (machine rules) (mark (reply rules r c)) (message k q p) ≡ 0) → (q : ℕ) → sum_by (with_answers (machine rules) (mark (reply rules r c))) (to_all rules k q) ≡ 0
-    none_all k e q = sum_by-mapped (with_answers (machine rules) (mark (reply rules r c))) (λ p. message k q p) (others rules q) ∙ sum_by-zero (λ p. with_answers (machine rules) (mark (reply rules r c)) (message k q p)) (λ p. e q p) (others rules q)
+  cond_le : (b : Bool) (n : ℕ) → n ≤ 1 → cond b n 0 ≤ cond b 1 0
+  cond_le true n h = h
+  cond_le false n h = omega arith
 
-    ask_weight : (q : ℕ) (d : CellData) → with_answers (machine rules) (mark (reply rules r c)) (ask rules q d) ≤ cond (eqb r q) (cond (same_cell c d) 1 0) 0
-    ask_weight q d = omega (arith, and_weight (eqb (rules.home c) (rules.home d)) (eqb r q) (same_cell c d))
+  -- a message among all those that aren't answers, and their answers
+  module _ (m : Message) where
+    abbrev W : Message → ℕ
+    W x = with_answers (machine rules) (mark m) x
 
-    cond_sum : (b : Bool) (f : CellData → ℕ) (xs : List CellData) → sum_by (λ d. cond b (f d) 0) xs ≡ cond b (sum_by f xs) 0
-    cond_sum true f xs = refl
-    cond_sum false f xs = sum_by-zero {X = CellData} (λ d. 0) (λ d. refl) xs
+    none_to : (k : Kind) → ((a p : ℕ) → W (message k a p) ≡ 0) → (a : ℕ) → sum_by W (to_all rules k a) ≡ 0
+    none_to k e a = sum_by-mapped W (λ p. message k a p) (others rules a) ∙ sum_by-zero (λ p. W (message k a p)) (λ p. e a p) (others rules a)
 
-    cond_le : (b : Bool) (n : ℕ) → n ≤ 1 → cond b n 0 ≤ cond b 1 0
-    cond_le true n h = h
-    cond_le false n h = omega arith
+    none_asked : ((a : ℕ) (d : CellData) → W (ask rules a d) ≡ 0) → (a : ℕ) → sum_by W (map (ask rules a) (filter (λ d. not (is_one d [])) (need rules a))) ≡ 0
+    none_asked e a = sum_by-mapped W (ask rules a) (filter (λ d. not (is_one d [])) (need rules a)) ∙ sum_by-zero (λ d. W (ask rules a d)) (λ d. e a d) (filter (λ d. not (is_one d [])) (need rules a))
 
-    asks_weight : (q : ℕ) → sum_by (with_answers (machine rules) (mark (reply rules r c))) (map (ask rules q) (filter (λ d. not (is_one d [])) (need rules q))) ≤ cond (eqb r q) 1 0
+    one_to : (k : Kind) (s t a : ℕ) → ((p : ℕ) → W (message k a p) ≤ cond (eqb s a) (cond (eqb t p) 1 0) 0) → sum_by W (to_all rules k a) ≤ cond (eqb s a) 1 0
+    one_to k s t a e = omega (
+      arith,
+      sum_by-mapped W (λ p. message k a p) (others rules a),
+      sum-le (λ p. W (message k a p)) (λ p. cond (eqb s a) (cond (eqb t p) 1 0) 0) e (others rules a),
+      cond_sum (eqb s a) (λ p. cond {A = ℕ} (eqb t p) 1 0) (others rules a),
+      cond_le (eqb s a) (sum_by (λ p. cond {A = ℕ} (eqb t p) 1 0) (others rules a)) (others_once t a),
+    )
+
+    one_asked : (s a : ℕ) (c : CellData) → ((d : CellData) → W (ask rules a d) ≤ cond (eqb s a) (cond (same_cell c d) 1 0) 0) → sum_by W (map (ask rules a) (filter (λ d. not (is_one d [])) (need rules a))) ≤ cond (eqb s a) 1 0
     unfolding need
-    asks_weight q =
+    one_asked s a c e =
         omega (
           arith,
-          sum_by-mapped (with_answers (machine rules) (mark (reply rules r c))) (ask rules q) (filter (λ d. not (is_one d [])) (need rules q)),
-          filter-le (λ d. not (is_one d [])) (λ d. with_answers (machine rules) (mark (reply rules r c)) (ask rules q d)) (need rules q),
-          sum-le (λ d. with_answers (machine rules) (mark (reply rules r c)) (ask rules q d)) (λ d. cond (eqb r q) (cond (same_cell c d) 1 0) 0) (ask_weight q) (need rules q),
-          cond_sum (eqb r q) (λ d. cond (same_cell c d) 1 0) (need rules q),
-          cond_le (eqb r q) (often same_cell same_cell-exact c (need rules q)) (fair.once c (filter (λ c. not (eqb (rules.home c) q)) (flat_map cells_of (flat_map (all_from rules.depth (rules.next q)) (rules.start q))))),
+          sum_by-mapped W (ask rules a) (filter (λ d. not (is_one d [])) (need rules a)),
+          filter-le (λ d. not (is_one d [])) (λ d. W (ask rules a d)) (need rules a),
+          sum-le (λ d. W (ask rules a d)) (λ d. cond (eqb s a) (cond (same_cell c d) 1 0) 0) e (need rules a),
+          cond_sum (eqb s a) (λ d. cond {A = ℕ} (same_cell c d) 1 0) (need rules a),
+          cond_le (eqb s a) (often same_cell same_cell-exact c (need rules a)) (fair.once c (filter (λ c. not (eqb (rules.home c) a)) (flat_map cells_of (flat_map (all_from rules.depth (rules.next a)) (rules.start a))))),
         )
 
+    -- only one rank sends it, or asks for it
+    by_one : (s : ℕ) → ((a : ℕ) → sum_by W (unsent rules a blank) ≤ cond (eqb s a) 1 0) → sum_by W first ≤ 1
+    by_one s e = omega (
+      arith,
+      sum_by-flat_map W (λ a. unsent rules a blank) (range_with_len 0 rules.ranks),
+      sum-le (λ a. sum_by W (unsent rules a blank)) (λ a. cond (eqb s a) 1 0) e (range_with_len 0 rules.ranks),
+      range_once s 0 rules.ranks,
+    )
+
+  abbrev it : Kind → ℕ → ℕ → CellData → Message
+  it k q r c = record { kind = k; from = q; to = r; cell = c }
+
+  -- each message is there once at most
+  pub message_once : (k : Kind) (q r : ℕ) (c : CellData) → sum_by (with_answers (machine rules) (mark (it k q r c))) first ≤ 1
+  message_once Table q r c = by_one (it Table q r c) q (λ a. omega (
+    arith,
+    unsent_sum rules fair a blank (W (it Table q r c)),
+    one_to (it Table q r c) Table q r a (λ p. omega (arith, and_first (eqb q a) (eqb r p) (same_cell c root_cell))),
+    none_to (it Table q r c) Sums (λ a p. refl) a,
+    none_to (it Table q r c) Want (λ a p. refl) a,
+    none_to (it Table q r c) Parts (λ a p. refl) a,
+    none_asked (it Table q r c) (λ a d. refl) a,
+  ))
+  message_once Sums q r c = by_one (it Sums q r c) q (λ a. omega (
+    arith,
+    unsent_sum rules fair a blank (W (it Sums q r c)),
+    one_to (it Sums q r c) Sums q r a (λ p. omega (arith, and_first (eqb q a) (eqb r p) (same_cell c root_cell))),
+    none_to (it Sums q r c) Table (λ a p. refl) a,
+    none_to (it Sums q r c) Want (λ a p. refl) a,
+    none_to (it Sums q r c) Parts (λ a p. refl) a,
+    none_asked (it Sums q r c) (λ a d. refl) a,
+  ))
+  message_once Want q r c = by_one (it Want q r c) q (λ a. omega (
+    arith,
+    unsent_sum rules fair a blank (W (it Want q r c)),
+    one_to (it Want q r c) Want q r a (λ p. omega (arith, and_first (eqb q a) (eqb r p) (same_cell c root_cell))),
+    none_to (it Want q r c) Table (λ a p. refl) a,
+    none_to (it Want q r c) Sums (λ a p. refl) a,
+    none_to (it Want q r c) Parts (λ a p. refl) a,
+    none_asked (it Want q r c) (λ a d. refl) a,
+  ))
+  message_once Members q r c = by_one (it Members q r c) r (λ a. omega (
+    arith,
+    unsent_sum rules fair a blank (W (it Members q r c)),
+    one_to (it Members q r c) Want r q a (λ p. omega (arith, and_second (eqb q p) (eqb r a) (same_cell c root_cell))),
+    none_to (it Members q r c) Table (λ a p. refl) a,
+    none_to (it Members q r c) Sums (λ a p. refl) a,
+    none_to (it Members q r c) Parts (λ a p. refl) a,
+    none_asked (it Members q r c) (λ a d. refl) a,
+  ))
+  message_once Parts q r c = by_one (it Parts q r c) q (λ a. omega (
+    arith,
+    unsent_sum rules fair a blank (W (it Parts q r c)),
+    one_to (it Parts q r c) Parts q r a (λ p. omega (arith, and_first (eqb q a) (eqb r p) (same_cell c root_cell))),
+    none_to (it Parts q r c) Table (λ a p. refl) a,
+    none_to (it Parts q r c) Sums (λ a p. refl) a,
+    none_to (it Parts q r c) Want (λ a p. refl) a,
+    none_asked (it Parts q r c) (λ a d. refl) a,
+  ))
+  message_once Ask q r c = by_one (it Ask q r c) q (λ a. omega (
+    arith,
+    unsent_sum rules fair a blank (W (it Ask q r c)),
+    one_asked (it Ask q r c) q a c (λ d. omega (arith, and_outer (eqb q a) (eqb r (rules.home d)) (same_cell c d))),
+    none_to (it Ask q r c) Table (λ a p. refl) a,
+    none_to (it Ask q r c) Sums (λ a p. refl) a,
+    none_to (it Ask q r c) Want (λ a p. refl) a,
+    none_to (it Ask q r c) Parts (λ a p. refl) a,
+  ))
+  message_once Reply q r c = by_one (it Reply q r c) r (λ a. omega (
+    arith,
+    unsent_sum rules fair a blank (W (it Reply q r c)),
+    one_asked (it Reply q r c) r a c (λ d. omega (arith, and_weight (eqb q (rules.home d)) (eqb r a) (same_cell c d))),
+    none_to (it Reply q r c) Table (λ a p. refl) a,
+    none_to (it Reply q r c) Sums (λ a p. refl) a,
+    none_to (it Reply q r c) Want (λ a p. refl) a,
+    none_to (it Reply q r c) Parts (λ a p. refl) a,
+  ))
+
+  module _ (r : ℕ) (c : CellData) where
     -- each reply is there once at most
     reply_once : sum_by (with_answers (machine rules) (mark (reply rules r c))) first ≤ 1
-    reply_once =
-        omega (
-          arith,
-          sum_by-flat_map (with_answers (machine rules) (mark (reply rules r c))) (λ q. unsent rules q blank) (range_with_len 0 rules.ranks),
-          sum-le (λ q. sum_by (with_answers (machine rules) (mark (reply rules r c))) (unsent rules q blank)) (λ q. cond (eqb r q) 1 0) (λ q. omega (
-            arith,
-            unsent_sum rules fair q blank (with_answers (machine rules) (mark (reply rules r c))),
-            none_all Table (λ q p. refl) q,
-            none_all Sums (λ q p. refl) q,
-            none_all Want (λ q p. refl) q,
-            none_all Parts (λ q p. refl) q,
-            asks_weight q,
-          )) (range_with_len 0 rules.ranks),
-          range_once r 0 rules.ranks,
-        )
+    reply_once = message_once Reply (rules.home c) r c
 
     pub same_itself : (m : Message) → same_message m m ≡ true
     same_itself m = and_from (eqb (code_of m.kind) (code_of m.kind)) (eqb m.from m.from && (eqb m.to m.to && same_cell m.cell m.cell)) (eq-eqb (code_of m.kind) (code_of m.kind) refl)

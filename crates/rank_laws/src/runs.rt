@@ -1,6 +1,6 @@
 // What holds of every run of the machine of ranks.
 ghost use Rattle.rank_laws.specs.Played.{EveryPickPlays, EveryPlayIsWell, PlaysAreComputed, PlaysAreOne};
-ghost use Rattle.rank_laws.specs.Runs.{EndsAll, EventsDeliverEach, GoesOn, IsBounded, IsNumbered, KeepsMessages};
+ghost use Rattle.rank_laws.specs.Runs.{EndsAll, EventsDeliverEach, GoesOn, IsBounded, IsNumbered, KeepsMessages, MessagesDiffer};
 
 /// No run has more than 5R^2 - R + 3A events, for R ranks and A cells that they need from others.
 pub fn every_run_is_short()
@@ -17,6 +17,7 @@ pub fn every_run_goes_on()
 /// At each moment each message is unsent, in the mail or delivered, exactly one of these. The events of a finished run deliver
 /// each message once, A asks and A replies among them.
 pub fn every_message_comes_once()
+    ensures differ { MessagesDiffer }
     ensures kept { KeepsMessages }
     ensures delivered { EventsDeliverEach }
 {}
