@@ -5,7 +5,8 @@ use Rattle.std.specs.List.{filter, flat_map, range_with_len}
 use Rattle.std.proofs.lemmas.Bool.{false≢true, and_parts, ltb-true, cases_lt}
 use Rattle.std.proofs.lemmas.List.Sums.{sum_by-cons, sum_by-append}
 use Rattle.nbody_model.specs.declared.field.Event.{Event}
-use Rattle.nbody_model.specs.Covers.{orient, interactions}
+use Rattle.nbody_model.specs.Covers.{orient, interactions, opening_of}
+use Rattle.nbody_model.specs.Force.{forces}
 use Rattle.model_laws.proofs.Sums.{sum_by-flat_map, sum_by-mapped}
 use Rattle.model_laws.proofs.Walk.{filter_sum}
 use Rattle.model_laws.proofs.Partners.{ones}
@@ -18,7 +19,7 @@ use Rattle.rank_laws.specs.Whole.{ranks, Whole, IsWhole, opening, depth_of, next
 use Rattle.rank_laws.specs.Runs.{unsent, received, IsFair, IsFinished, DeliversEach, all_needed, is_of}
 use Rattle.rank_laws.specs.Kept.{HasCounts}
 use Rattle.rank_laws.specs.Told.{told, told_act, told_message, is_ask, is_reply, is_walk, walked_size, told_kind}
-use Rattle.rank_laws.specs.Played.{Picks, IsInRange, picked, IsPlayed, IsOnePlay, PlaysAreOne, EveryPlayIsWell, EveryPickPlays}
+use Rattle.rank_laws.specs.Played.{Picks, IsInRange, picked, IsPlayed, IsOnePlay, PlaysAreOne, EveryPlayIsWell, EveryPickPlays, PlaysWell, NothingShows}
 use Rattle.rank_laws.proofs.Protocol.{IsKept, run_kept, potential, over-changed, each-get, over, over-ranks}
 use Rattle.rank_laws.proofs.Machine.{IsSteady, IsGood, left}
 use Rattle.rank_laws.proofs.Taken.{first}
@@ -332,4 +333,13 @@ plays_well p w whole a es z b h =
         sizes,
         counted_all,
       );
+    }
+
+pub shows_nothing : NothingShows
+shows_nothing p q v w u x same alike a c es fs y z b d h k =
+    let f : PlaysWell v es y = plays_well p v u a es y b h in
+    let g : PlaysWell w fs z = plays_well q w x c fs z d k in
+    record {
+      forces = f.forces ∙ (λ i. forces (alike i) (same i)) ∙ sym g.forces;
+      counted = f.counted ∙ (λ i. length (interactions (opening_of (alike i).setup (same i)))) ∙ sym g.counted;
     }

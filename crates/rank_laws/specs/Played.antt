@@ -2,6 +2,7 @@
 use Rattle.std.specs.Prelude.{◌≡◌, ◌<◌, ◌≤◌, ℕ, ◌+◌, ◌*◌, ◌==◌, List, [], ◌∷◌, length, map, sum_by, if◌then◌else◌}
 use Rattle.std.proofs.Common.{zero, suc}
 use Rattle.std.specs.List.{count_by}
+use Rattle.fixed_point.specs.declared.V3.{V3}
 use Rattle.nbody_model.specs.declared.field.Event.{Event}
 use Rattle.nbody_model.specs.Covers.{interactions}
 use Rattle.nbody_model.specs.Force.{forces}
@@ -64,6 +65,13 @@ abbrev pub PlaysAreComputed : Type 0
 PlaysAreComputed = (p : Picks) (w : Whole) (n : ℕ) (m : World Rank Message) (a : List ℕ) → enabled (machine (rules_of w)) (end_by p w n m a) ≡ 0 →
     (es : List Event) (z : World Rank Message) (b : List ℕ) → IsPlayed p w m a es z b → (es ≡ events_by p w n m a) × (z ≡ end_by p w n m a)
 
+-- what the owners of the bodies have for them, and how many pairs the ranks have counted
+abbrev pub found : Whole → World Rank Message → List V3
+found w z = map (λ b. given_up w (w.owner b.id) (state (machine (rules_of w)) z (w.owner b.id)) b) w.bodies
+
+abbrev pub count_found : Whole → World Rank Message → ℕ
+count_found w z = sum_by (λ r. length (counted_in w r (state (machine (rules_of w)) z r).done)) (ranks w)
+
 -- what a play from the start comes to: it is finished, it has few events, with one ask and one reply for each cell that a
 -- rank needs, the ranks have counted as many as the interactions, so have its walks, and the owners have the forces
 pub record PlaysWell (w : Whole) (es : List Event) (z : World Rank Message) : Type 0 where
@@ -71,12 +79,23 @@ pub record PlaysWell (w : Whole) (es : List Event) (z : World Rank Message) : Ty
   pub few : length es + ranks_of w ≤ 5 * ranks_of w * ranks_of w + 3 * all_needed (rules_of w)
   pub asks : count_by (λ e. is_ask e.kind) es ≡ all_needed (rules_of w)
   pub replies : count_by (λ e. is_reply e.kind) es ≡ all_needed (rules_of w)
-  pub counted : sum_by (λ r. length (counted_in w r (state (machine (rules_of w)) z r).done)) (ranks w) ≡ length (interactions (opening w))
-  pub forces : map (λ b. given_up w (w.owner b.id) (state (machine (rules_of w)) z (w.owner b.id)) b) w.bodies ≡ forces w.gravity w.bodies
+  pub counted : count_found w z ≡ length (interactions (opening w))
+  pub forces : found w z ≡ forces w.gravity w.bodies
   pub walked : sum_by walked_size es ≡ length (interactions (opening w))
 
 abbrev pub EveryPlayIsWell : Type 0
 EveryPlayIsWell = (p : Picks) (w : Whole) → IsWhole w → (a : List ℕ) (es : List Event) (z : World Rank Message) (b : List ℕ) → IsPlayed p w (start_world (rules_of w)) a es z b → PlaysWell w es z
+
+-- two plays come to the same forces and the same count
+pub record FindAlike (v w : Whole) (y z : World Rank Message) : Type 0 where
+  pub forces : found v y ≡ found w z
+  pub counted : count_found v y ≡ count_found w z
+
+-- any two do over the same bodies and gravity: whatever the ranks, their bounds, the owners and who picks are
+abbrev pub NothingShows : Type 0
+NothingShows = (p q : Picks) (v w : Whole) → IsWhole v → IsWhole w → v.bodies ≡ w.bodies → v.gravity ≡ w.gravity →
+    (a c : List ℕ) (es fs : List Event) (y z : World Rank Message) (b d : List ℕ) →
+    IsPlayed p v (start_world (rules_of v)) a es y b → IsPlayed q w (start_world (rules_of w)) c fs z d → FindAlike v w y z
 
 -- a play from the start
 pub record HasPlay (p : Picks) (w : Whole) (a : List ℕ) : Type 0 where

@@ -1,5 +1,5 @@
 // What holds of every run of the machine of ranks.
-ghost use Rattle.rank_laws.specs.Played.{EveryPickPlays, EveryPlayIsWell, PlaysAreComputed, PlaysAreOne};
+ghost use Rattle.rank_laws.specs.Played.{EveryPickPlays, EveryPlayIsWell, NothingShows, PlaysAreComputed, PlaysAreOne};
 ghost use Rattle.rank_laws.specs.Runs.{EndsAll, EventsDeliverEach, GoesOn, IsBounded, IsNumbered, KeepsMessages, MessagesDiffer};
 
 /// No run has more than 5R^2 - R + 3A events, for R ranks and A cells that they need from others.
@@ -33,4 +33,10 @@ pub fn plays_are_one()
 pub fn every_play_is_well()
     ensures there { EveryPickPlays }
     ensures well { EveryPlayIsWell }
+{}
+
+/// Two plays over the same bodies come to the same forces and the same count: neither the ranks, their bounds and the owners of
+/// the bodies show in them, nor who picks the events.
+pub fn nothing_shows()
+    ensures { NothingShows }
 {}
