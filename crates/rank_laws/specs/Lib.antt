@@ -1,0 +1,12 @@
+pub mod Homes
+pub mod Trees
+pub mod Protocol
+pub mod Machine
+pub mod Whole
+pub mod Contents
+pub mod Owners
+pub mod Runs
+pub mod Forces
+pub mod Kept
+pub mod Told
+pub mod Played
