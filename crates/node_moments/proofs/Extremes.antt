@@ -9,7 +9,7 @@ use Rattle.nbody_model.specs.Nodes.{positions_of, at_one_place}
 use Rattle.model_laws.proofs.Among.{Among, among-all}
 use Rattle.node_moments.specs.Sums.{least, greatest, at_x, at_y, at_z}
 
-min_below : (k : ℕ) (xs : List ℕ) → fold min k xs ≤ k
+pub min_below : (k : ℕ) (xs : List ℕ) → fold min k xs ≤ k
 min_below k [] = omega arith
 min_below k (x ∷ xs) = let u : fold min (min k x) xs ≤ min k x = min_below (min k x) xs in omega (arith, u)
 
@@ -22,12 +22,12 @@ min_of f k b [] h = absurd h
 min_of f k b (m ∷ ms) (inl e) = let u : fold min (min k (f m)) (map f ms) ≤ min k (f m) = min_below (min k (f m)) (map f ms) in omega (arith, u, ap f e)
 min_of f k b (m ∷ ms) (inr h) = min_of f (min k (f m)) b ms h
 
-max_of : (f : BodyData → ℕ) (k : ℕ) (b : BodyData) (ms : List BodyData) → Among b ms → f b ≤ fold max k (map f ms)
+pub max_of : (f : BodyData → ℕ) (k : ℕ) (b : BodyData) (ms : List BodyData) → Among b ms → f b ≤ fold max k (map f ms)
 max_of f k b [] h = absurd h
 max_of f k b (m ∷ ms) (inl e) = let u : max k (f m) ≤ fold max (max k (f m)) (map f ms) = max_above (max k (f m)) (map f ms) in omega (arith, u, ap f e)
 max_of f k b (m ∷ ms) (inr h) = max_of f (max k (f m)) b ms h
 
-min_low : (f : BodyData → ℕ) (k n : ℕ) (ms : List BodyData) → n ≤ k → ((b : BodyData) → Among b ms → n ≤ f b) → n ≤ fold min k (map f ms)
+pub min_low : (f : BodyData → ℕ) (k n : ℕ) (ms : List BodyData) → n ≤ k → ((b : BodyData) → Among b ms → n ≤ f b) → n ≤ fold min k (map f ms)
 min_low f k n [] h a = h
 min_low f k n (m ∷ ms) h a = min_low f (min k (f m)) n ms (omega (arith, h, a m (inl refl))) (λ b j. a b (inr j))
 

@@ -6,3 +6,5 @@ pub mod Centred
 pub mod Extremes
 pub mod Nodes
 pub mod Shifts
+pub mod Order
+pub mod Within
