@@ -99,7 +99,7 @@ cell_acts w x c t (inr (inr h)) = absurd h
 pair_among : (z : Pair) (ys : List Pair) → list_any (same_pair z) ys ≡ true → Among z ys
 pair_among z ys e = let v : Witness (same_pair z) ys = any-witness (same_pair z) ys e in subst (λ t. Among t ys) (sym ((same_pair-exact z v.it).0 v.passes)) v.«in»
 
-among_flat : {X Y : Type 0} (f : X → List Y) (y : Y) (x : X) (xs : List X) → Among x xs → Among y (f x) → Among y (flat_map f xs)
+pub among_flat : {X Y : Type 0} (f : X → List Y) (y : Y) (x : X) (xs : List X) → Among x xs → Among y (f x) → Among y (flat_map f xs)
 among_flat f y x [] h k = absurd h
 among_flat {Y = Y} f y x (z ∷ zs) (inl e) k = left (f z) (subst (λ t. Among y (f t)) e k)
   where

@@ -1,0 +1,24 @@
+//! Laws of ranks whose cells have their keys along the curve, each the contract of a public function with an empty body.
+#![tactic(auto)]
+
+ghost use Rattle.rank_curve_laws.specs.Along.{CellsAreTold, CurveHasKeys, EveryDivisionIsWhole, NoDivisionShows};
+
+/// The keys of cells along the curve nest, for all bounds of one rank and more.
+pub fn curve_has_keys()
+    ensures { CurveHasKeys }
+{}
+
+/// Cells of the box that have one level and one first key are one, so each set of them has one order.
+pub fn cells_are_told()
+    ensures { CellsAreTold }
+{}
+
+/// Bodies that keep the limits, a rank for each and a bound for each rank are what forces may be found over.
+pub fn every_division_is_whole()
+    ensures { EveryDivisionIsWhole }
+{}
+
+/// Two plays over the same bodies come to the same forces and the same count, whatever owners, bounds and picks.
+pub fn no_division_shows()
+    ensures { NoDivisionShows }
+{}

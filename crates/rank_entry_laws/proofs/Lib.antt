@@ -1,0 +1,4 @@
+pub mod OwnBodies
+pub mod OwnTree
+pub mod Given
+pub mod Read
