@@ -16,7 +16,8 @@ pub use product::{high_half, high_product};
 pub use quotient::{floor_div_mod, trunc_div};
 pub use root::{inverse_root, isqrt};
 pub use words::{
-    push_bytes, push_three_signed, push_three_words, push_word32, push_word64, push_word128, signed64, word32, word64,
+    push_bytes, push_three_signed, push_three_words, push_word32, push_word64, push_word128,
+    signed64, word32, word64,
 };
 
 /// Three numbers, one for each axis.

@@ -8,7 +8,9 @@ ghost use Rattle.restart_files.specs.Texts.{counters_text, deep_body_bytes};
 
 use crate::State;
 use crate::head::{END_MARK, TAG};
-use fixed_point::{Memory, push_bytes, push_three_signed, push_three_words, push_word32, push_word64, push_word128};
+use fixed_point::{
+    Memory, push_bytes, push_three_signed, push_three_words, push_word32, push_word64, push_word128,
+};
 use nbody_model::{Body, Setup};
 use std::alloc::Global;
 
