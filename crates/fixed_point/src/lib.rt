@@ -4,6 +4,7 @@
 mod difference;
 mod memory;
 mod momentum;
+mod product;
 mod quotient;
 mod root;
 mod words;
@@ -11,8 +12,9 @@ mod words;
 pub use difference::wrap_diff;
 pub use memory::Memory;
 pub use momentum::scale_in_range;
+pub use product::{high_half, high_product};
 pub use quotient::{floor_div_mod, trunc_div};
-pub use root::isqrt;
+pub use root::{inverse_root, isqrt};
 pub use words::{signed64, word32, word64};
 
 /// Three numbers, one for each axis.

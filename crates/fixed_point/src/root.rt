@@ -2,6 +2,8 @@
 ghost use Rattle.std.specs.Prelude.{◌≡◌, ◌+◌, ◌*◌, ◌^◌, ◌<◌, ◌≤◌, IsTrue};
 ghost use Rattle.fixed_point.specs.Fixed.{root, IsRoot};
 
+use crate::product::{high_half, high_product};
+
 /// The greatest `r` with `r * r <= n`, for `n` below 2^66.
 #[tactic(auto, using(crate::proofs::Roots::root_is))]
 pub fn isqrt(n: u128) -> u64
@@ -44,8 +46,9 @@ fn guess(n: u128) -> u64 {
     high_product(top, inverse_root(top)).wrapping_shr((even / 2).wrapping_sub(3))
 }
 
-// Near 2^93 / sqrt(m), for m from 2^62 on: an entry of the table, and two steps of Newton.
-fn inverse_root(m: u64) -> u64 {
+/// Near 2^93 / sqrt(m), for m from 2^62 on: an entry of the table, and two steps of Newton. It is a guess, and whoever
+/// takes it tests what comes of it.
+pub fn inverse_root(m: u64) -> u64 {
     let place = (m >> 55).saturating_sub(128).min(383);
     let first = u64::from(INVERSE_ROOTS[place as usize]);
     let excess = high_product(m, first.wrapping_mul(first));
@@ -54,14 +57,6 @@ fn inverse_root(m: u64) -> u64 {
     let excess = high_product(m, second.wrapping_mul(second));
     let factor = 0xC000_0000_0000_0000u64.wrapping_sub(excess);
     high_product(second.wrapping_shl(31), factor)
-}
-
-fn high_half(n: u128) -> u64 {
-    (n >> 64) as u64
-}
-
-fn high_product(a: u64, b: u64) -> u64 {
-    high_half(a as u128 * b as u128)
 }
 
 // The entry i is near 2^62 / sqrt(x) for x in the middle of the i-th part of [1, 4), each 1/128 long.

@@ -56,7 +56,7 @@ two_below : (t : ℕ → Bool) (n : ℕ) → EachTwo (Two t n) (filter t (below 
 two_below t zero = tt
 two_below t (suc n) = two_step t n (filter t (below n)) (t n) refl (kept_below t n) (two_below t n)
 
-kids_lie : (o : Opening) (c : CellData) → c.level < 32 → AllByRecursion (LiesIn o c) (kids o c)
+pub kids_lie : (o : Opening) (c : CellData) → c.level < 32 → AllByRecursion (LiesIn o c) (kids o c)
 kids_lie o c low = each-map (λ m. (m < 8) × (has_member o (child c m) ≡ true)) (LiesIn o c) (child c) (λ k h. record { member = h.1; within = λ p. child_within c k p low h.0 })
     (filter (λ k. has_member o (child c k)) (below 8)) (kept_below (λ k. has_member o (child c k)) 8)
 

@@ -58,7 +58,7 @@ turned_cells : (a b : CellData) → same_cell a b ≡ same_cell b a
 turned_cells a b = both_equal (same_cell a b) (same_cell b a) (λ e. (same_cell-exact b a).1 (sym ((same_cell-exact a b).0 e))) (λ e. (same_cell-exact a b).1 (sym ((same_cell-exact b a).0 e)))
 
 -- cells with members and nothing in common are different
-differ : (o : Opening) (a b : CellData) → AreApart o a b → same_cell a b ≡ false
+pub differ : (o : Opening) (a b : CellData) → AreApart o a b → same_cell a b ≡ false
 unfolding is_node
 differ o a b h = no (same_cell a b) refl
   where

@@ -16,7 +16,7 @@ order_free o s order ordered = record {
   looks_at = turned_alike (visits_in o order) (visits o) (visited o) (visits_alike o s.fair order ordered) (visits_times o s);
 }
 
-flat_map-same : {X Y : Type 0} (f g : X → List Y) → ((x : X) → f x ≡ g x) → (xs : List X) → flat_map f xs ≡ flat_map g xs
+pub flat_map-same : {X Y : Type 0} (f g : X → List Y) → ((x : X) → f x ≡ g x) → (xs : List X) → flat_map f xs ≡ flat_map g xs
 flat_map-same f g e [] = refl
 flat_map-same f g e (x ∷ xs) = ap (λ t. t ++ flat_map f xs) (e x) ∙ ap (λ t. g x ++ t) (flat_map-same f g e xs)
 
