@@ -82,7 +82,7 @@ accept_turned s A B u v =
     let far : square (way A.centre B.centre) ≡ square (way B.centre A.centre) = square_turned A.centre B.centre u v in
     λ i. ltb (sides i * sides i * 65536) (s.theta * s.theta * far i)
 
-moments_in : (s : SetupData) (B : List BodyData) (c : CellData) → AllByRecursion (λ b. InBox b.motion.pos) B → InBox ((moments s B c).centre)
+pub moments_in : (s : SetupData) (B : List BodyData) (c : CellData) → AllByRecursion (λ b. InBox b.motion.pos) B → InBox ((moments s B c).centre)
 unfolding moments
 moments_in s B c a = centre_in (members B c) (each-filter (λ b. InBox b.motion.pos) (λ b. contains c b.motion.pos) B a)
 

@@ -1,5 +1,6 @@
 // Signed sums, products and quotients, an operation each.
-ghost use Rattle.std.specs.Prelude.{◌≡◌, ◌<◌, ◌≤◌, ◌+◌, ◌*◌, ◌^◌, ◌+ℤ◌, ◌-ℤ◌, ◌*ℤ◌, unsigned_abs};
+ghost use Rattle.std.specs.Prelude.{◌≡◌, ◌<◌, ◌≤◌, ◌+◌, ◌*◌, ◌/◌, ◌%◌, ◌^◌, ◌+ℤ◌, ◌-ℤ◌, ◌*ℤ◌, unsigned_abs};
+ghost use Rattle.std.specs.Int.Count.{count_leading_zeros};
 ghost use Rattle.nbody_model.specs.Scaling.{◌·◌, ◌÷◌};
 
 use fixed_point::trunc_div;
@@ -58,4 +59,20 @@ pub fn narrow(z: i128) -> i64
     ensures { result ≡ z }
 {
     z as i64
+}
+
+/// The leading zeros of a number, one less where they are odd.
+pub fn even_zeros(n: u64) -> u32
+    ensures low { result ≤ count_leading_zeros 64 n }
+    ensures high { count_leading_zeros 64 n ≤ result + 1 }
+{
+    let zeros = n.leading_zeros();
+    zeros - zeros % 2
+}
+
+/// The low half of a number.
+pub fn low_half(n: u128) -> u64
+    ensures { result ≡ n % 2 ^ 64 }
+{
+    (n % 0x1_0000_0000_0000_0000) as u64
 }
