@@ -1,19 +1,18 @@
 -- The two cells of a cover may act on each other.
-use Rattle.std.proofs.Common.{◌≡◌, ◌≤◌, ◌<◌, ◌+◌, ◌^◌, ℕ, Bool, true, false, cond, List, [], ◌∷◌, length, get_or, refl, sym, ap, subst, ◌∙◌, arith}
+use Rattle.std.proofs.Common.{◌≡◌, ◌≤◌, ◌<◌, ◌+◌, ◌^◌, ℕ, Bool, true, false, cond, List, length, get_or, refl, sym, ap, subst, ◌∙◌, arith}
 use Rattle.std.specs.List.{list_any}
-use Rattle.std.proofs.lemmas.List.Sums.{sum_by-cons}
-use Rattle.cell_space.specs.Cells.{Position, CellData, contains, same_place, before, AreDisjoint, cell_at}
+use Rattle.cell_space.specs.Cells.{Position, CellData, same_place, before, AreDisjoint, cell_at}
 use Rattle.cell_space.proofs.Cells.{same_place-exact}
 use Rattle.nbody_model.specs.Bodies.{BodyData}
 use Rattle.nbody_model.specs.Setups.{SetupData}
-use Rattle.nbody_model.specs.Nodes.{members, positions_of}
-use Rattle.nbody_model.specs.Moments.{moments, mass_of}
+use Rattle.nbody_model.specs.Nodes.{positions_of}
+use Rattle.nbody_model.specs.Moments.{moments}
 use Rattle.nbody_model.specs.Covers.{Opening, opening_of, cover, final, orient, same_pair, interactions}
 use Rattle.model_laws.specs.Laws.{AreBodies, IsSound, IsFair, HasOneCover, IsPairOfNodes}
 use Rattle.model_laws.proofs.Among.{Witness, any-witness, each-among, any-among, among-map}
 use Rattle.model_laws.proofs.Fair.{opening_sound}
 use Rattle.model_laws.proofs.Same.{final_fair}
-use Rattle.model_laws.proofs.PairLimits.{interactions_final}
+use Rattle.model_laws.proofs.PairLimits.{interactions_final, disjoint_masses, mass_is}
 use Rattle.model_laws.proofs.Pairs.{pairs_of_nodes}
 use Rattle.model_laws.proofs.Partners.{one_cover}
 use Rattle.model_laws.proofs.Turned.{same_pair-exact}
@@ -63,19 +62,5 @@ bodies-act s B i j b d k l all low high differ covered =
 
 -- ---- their masses
 
-mass_step : (t u : Bool) (x : BodyData) (ms ns xs : List BodyData) → (t ≡ true → u ≡ true → ⊥) → mass_of ms + mass_of ns ≤ mass_of xs → mass_of (cond t (x ∷ ms) ms) + mass_of (cond u (x ∷ ns) ns) ≤ mass_of (x ∷ xs)
-mass_step true true x ms ns xs never h = absurd (never refl refl)
-mass_step true false x ms ns xs never h = omega (arith, h, sum_by-cons (λ (b : BodyData). b.mass) x ms, sum_by-cons (λ (b : BodyData). b.mass) x xs)
-mass_step false true x ms ns xs never h = omega (arith, h, sum_by-cons (λ (b : BodyData). b.mass) x ns, sum_by-cons (λ (b : BodyData). b.mass) x xs)
-mass_step false false x ms ns xs never h = omega (arith, h, sum_by-cons (λ (b : BodyData). b.mass) x xs)
-
-masses-apart : (a b : CellData) → AreDisjoint a b → (B : List BodyData) → mass_of (members B a) + mass_of (members B b) ≤ mass_of B
-masses-apart a b d [] = omega arith
-masses-apart a b d (x ∷ xs) = mass_step (contains a x.motion.pos) (contains b x.motion.pos) x (members xs a) (members xs b) xs (λ u v. d.apart x.motion.pos u v) (masses-apart a b d xs)
-
-mass-is : (s : SetupData) (B : List BodyData) (c : CellData) → (moments s B c).mass ≡ mass_of (members B c)
-unfolding moments
-mass-is s B c = refl
-
 pub light-both : (s : SetupData) (B : List BodyData) (a b : CellData) → AreBodies B → AreDisjoint a b → (moments s B a).mass + (moments s B b).mass ≤ 2 ^ 32
-light-both s B a b all d = omega (arith, mass-is s B a, mass-is s B b, masses-apart a b d B, all.valid.light)
+light-both s B a b all d = omega (arith, mass_is s B a, mass_is s B b, disjoint_masses B a b d, all.valid.light)

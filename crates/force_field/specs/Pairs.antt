@@ -1,10 +1,10 @@
 -- Two nodes that act on each other.
-use Rattle.std.specs.Prelude.{◌≡◌, ℕ, ◌+◌, ◌^◌, ◌≤◌, ◌<◌, true, ◌==◌, List, get_or, if◌then◌else◌}
+use Rattle.std.specs.Prelude.{◌≡◌, ℕ, ◌+◌, ◌^◌, ◌≤◌, ◌<◌, true, ◌==◌, List, get_or, count_by, if◌then◌else◌}
 use Rattle.fixed_point.specs.Vectors.{origin, IsAtMost}
 use Rattle.cell_space.specs.Cells.{cell_at}
 use Rattle.nbody_model.specs.Bodies.{BodyData}
 use Rattle.nbody_model.specs.Tables.{Gravity}
-use Rattle.nbody_model.specs.Covers.{opening_of}
+use Rattle.nbody_model.specs.Covers.{Opening, opening_of}
 use Rattle.fixed_point.specs.declared.V3.{V3}
 use Rattle.nbody_model.specs.Force.{node_total}
 use Rattle.model_laws.specs.Firsts.{part_of_total, stands_for}
@@ -30,3 +30,7 @@ pub record IsPart (g : Gravity) (B : List BodyData) (b j : BodyData) (p : Part) 
 pub record AreTotals (g : Gravity) (B : List BodyData) (b : BodyData) (totals : List V3) : Type 0 where
   pub totals_are : (l : ℕ) → l < 33 → get_or totals l origin ≡ node_total g B (cell_at l b.motion.pos)
   pub small : (l : ℕ) → l < 33 → IsAtMost (2 ^ 107) (get_or totals l origin)
+
+-- how many interactions a body counts
+abbrev pub counted_by : Opening → List BodyData → BodyData → ℕ
+counted_by o B b = count_by (stands_for o B b) B

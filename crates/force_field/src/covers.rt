@@ -6,7 +6,7 @@ ghost use Rattle.nbody_model.specs.Covers.{opening_of};
 ghost use Rattle.model_laws.specs.Laws.{AreBodies};
 ghost use Rattle.pair_law.specs.Conditions.{is_final};
 ghost use Rattle.force_field.specs.Around.{AreNodesOf};
-ghost use Rattle.force_field.specs.Levels.{IsCover};
+ghost use Rattle.force_field.specs.Levels.{IsCoverAt};
 
 use crate::levels::parting_level;
 use crate::nodes::{Node, around};
@@ -48,7 +48,7 @@ pub(crate) fn cover_levels(all: &Grouped, i: usize, j: usize) -> (u8, u8)
     requires apart { (b d : BodyData) → same_place (get_or all.now.bodies.now i b).motion.pos (get_or all.now.bodies.now j d).motion.pos ≡ false }
     ensures first { result.0 ≤ 32 }
     ensures second { result.1 ≤ 32 }
-    ensures cover { (b d : BodyData) → IsCover (opening_of all.now.setup.now all.now.bodies.now) (get_or all.now.bodies.now i b).motion.pos (get_or all.now.bodies.now j d).motion.pos result.0 result.1 }
+    ensures cover { IsCoverAt (opening_of all.now.setup.now all.now.bodies.now) all.now.bodies.now i j result.0 result.1 }
 {
     let first = around(all.nodes, i);
     let second = around(all.nodes, j);

@@ -2,7 +2,7 @@
 ghost use Rattle.std.specs.Prelude.{◌≡◌, ◌^◌, ℕ, List, [], All, IfOk, length};
 ghost use Rattle.std.specs.Option.{option_copied};
 ghost use Rattle.fixed_point.specs.declared.V3.{V3};
-ghost use Rattle.fixed_point.specs.Vectors.{IsAtMost, origin, sum_of};
+ghost use Rattle.fixed_point.specs.Vectors.{IsBelow, origin, sum_of};
 ghost use Rattle.nbody_model.specs.Bodies.{IsValid};
 ghost use Rattle.nbody_model.specs.Covers.{interactions, opening_of};
 ghost use Rattle.nbody_model.specs.Force.{forces};
@@ -30,7 +30,7 @@ fn field_of(
     ensures interactions { IfOk result (λ f. f.interactions ≡ length (interactions (opening_of setup.now bodies.now))) }
     ensures events { IfOk result (λ f. f.events ≡ []) }
     ensures cancel { IfOk result (λ f. sum_of (λ v. v) f.forces ≡ origin) }
-    ensures small { IfOk result (λ f. All (IsAtMost (2 ^ 118)) f.forces) }
+    ensures small { IfOk result (λ f. All (IsBelow (2 ^ 118)) f.forces) }
 {
     keep_limits(bodies);
     let nodes = nodes_of(alloc, setup, bodies)?;
@@ -87,7 +87,7 @@ impl Forces for ListField<'_> {
         ensures interactions { IfOk result (λ f. f.interactions ≡ length (interactions (opening_of (list_gravity self.old).setup bodies.now))) }
         ensures passes { IfOk result (λ f. quiet (list_gravity self.old) (no_numbers self.old) bodies.now (no_numbers self.old) f.events (no_numbers self.new)) }
         ensures cancel { IfOk result (λ f. sum_of (λ v. v) f.forces ≡ origin) }
-        ensures small { IfOk result (λ f. All (IsAtMost (2 ^ 118)) f.forces) }
+        ensures small { IfOk result (λ f. All (IsBelow (2 ^ 118)) f.forces) }
     {
         field_of(self.alloc, &self.setup, self.table, bodies)
     }

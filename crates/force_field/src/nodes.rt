@@ -1,5 +1,5 @@
 // The nodes around bodies.
-ghost use Rattle.std.specs.Prelude.{◌≡◌, ◌≤◌, ◌<◌, ◌+◌, ◌*◌, ◌^◌, ◌==◌, ◌++◌, ◌∷◌, [], true, List, ℕ, length, take, filter, get_or, IfOk};
+ghost use Rattle.std.specs.Prelude.{◌≡◌, ◌≤◌, ◌<◌, ◌+◌, ◌*◌, ◌^◌, ◌==◌, [], true, List, ℕ, length, take, filter, get_or, IfOk};
 ghost use Rattle.std.specs.List.{AllByRecursion};
 ghost use Rattle.cell_space.specs.Cells.{contains, cell_at};
 ghost use Rattle.nbody_model.specs.Bodies.{BodyData, IsValid};
@@ -7,7 +7,7 @@ ghost use Rattle.nbody_model.specs.Setups.{SetupData};
 ghost use Rattle.nbody_model.specs.Nodes.{members};
 ghost use Rattle.model_laws.specs.Laws.{AreBodies};
 ghost use Rattle.node_moments.specs.Sums.{raw_of};
-ghost use Rattle.force_field.specs.Around.{AreNodesAround, AreNodesOf, IsNodeAround};
+ghost use Rattle.force_field.specs.Around.{AreNodesAround, AreNodesOf, IsNodeAround, raw_with};
 
 use cell_space::{Cell, cell_of};
 use fixed_point::Memory;
@@ -52,7 +52,7 @@ fn with_body(sums: Raw, cell: &Cell, body: &Body, soft: &[u32; 6]) -> Raw
     requires same_cell { sums.cell ≡ cell.now }
     requires few { sums.count < 1048576 }
     requires light { sums.mass + body.now.mass ≤ 2 ^ 32 }
-    ensures { (ms : List BodyData) → sums ≡ raw_of soft.now cell.now ms → result ≡ raw_of soft.now cell.now (ms ++ filter (λ b. contains cell.now b.motion.pos) (body.now ∷ [])) }
+    ensures { (ms : List BodyData) → sums ≡ raw_of soft.now cell.now ms → result ≡ raw_with soft.now cell.now ms body.now }
 {
     if !is_in(body, cell) {
         return sums;

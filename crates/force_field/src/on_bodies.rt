@@ -1,14 +1,13 @@
 // The forces on bodies, from the totals of the nodes around them.
-ghost use Rattle.std.specs.Prelude.{◌≡◌, ◌≤◌, ◌<◌, ◌*◌, ◌^◌, ℕ, length, get_or, map, sum_by, count_by, All, IfOk};
-ghost use Rattle.fixed_point.specs.Vectors.{IsAtMost};
+ghost use Rattle.std.specs.Prelude.{◌≡◌, ◌≤◌, ◌<◌, ◌*◌, ◌^◌, ℕ, length, get_or, map, sum_by, All, IfOk};
+ghost use Rattle.fixed_point.specs.Vectors.{IsBelow};
 ghost use Rattle.nbody_model.specs.Bodies.{BodyData};
 ghost use Rattle.nbody_model.specs.Covers.{opening_of};
 ghost use Rattle.nbody_model.specs.Force.{force_at, forces};
-ghost use Rattle.model_laws.specs.Firsts.{stands_for};
 ghost use Rattle.model_laws.specs.Laws.{AreBodies};
 ghost use Rattle.force_field.specs.Around.{AreNodesOf};
 ghost use Rattle.force_field.specs.Grouped.{gravity_of};
-ghost use Rattle.force_field.specs.Pairs.{AreTotals};
+ghost use Rattle.force_field.specs.Pairs.{AreTotals, counted_by};
 ghost use Rattle.force_field.specs.Shared.{HasRoom};
 
 use crate::covers::Grouped;
@@ -26,7 +25,7 @@ fn force_on_body(all: &Grouped, i: usize, totals: &[V3], work: &mut Workspace) -
     requires totals { (b : BodyData) → AreTotals (gravity_of all.now) all.now.bodies.now (get_or all.now.bodies.now i b) totals.now }
     requires room { HasRoom (length all.now.bodies.now) work.old }
     ensures value { (b : BodyData) → IfOk result (λ force. force ≡ force_at (gravity_of all.now) all.now.bodies.now (get_or all.now.bodies.now i b)) }
-    ensures small { IfOk result (IsAtMost (2 ^ 118)) }
+    ensures small { IfOk result (IsBelow (2 ^ 118)) }
     ensures room { HasRoom (length all.now.bodies.now) work.new }
 {
     let mut force = V3::ZERO;
@@ -44,8 +43,8 @@ pub(crate) fn forces_on(alloc: Global, all: &Grouped) -> Result<(Vec<V3>, u64), 
     requires bodies { AreBodies all.now.bodies.now }
     requires nodes { AreNodesOf all.now.setup.now all.now.bodies.now all.now.nodes.now }
     ensures forces { IfOk result (λ found. found.0.items ≡ forces (gravity_of all.now) all.now.bodies.now) }
-    ensures small { IfOk result (λ found. All (IsAtMost (2 ^ 118)) found.0.items) }
-    ensures interactions { IfOk result (λ found. found.1 ≡ sum_by (λ b. count_by (stands_for (opening_of all.now.setup.now all.now.bodies.now) all.now.bodies.now b) all.now.bodies.now) all.now.bodies.now) }
+    ensures small { IfOk result (λ found. All (IsBelow (2 ^ 118)) found.0.items) }
+    ensures interactions { IfOk result (λ found. found.1 ≡ sum_by (counted_by (opening_of all.now.setup.now all.now.bodies.now) all.now.bodies.now) all.now.bodies.now) }
 {
     let n = all.bodies.len();
     let mut work = Workspace::with_room(alloc, n)?;

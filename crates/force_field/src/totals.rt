@@ -1,14 +1,13 @@
 // The totals of the nodes around a body.
-ghost use Rattle.std.specs.Prelude.{◌≡◌, ◌≤◌, ◌<◌, ◌+◌, ◌*◌, ◌^◌, ◌&&◌, ◌||◌, ◌==◌, not, true, false, ℕ, length, get_or, set, count_by, if◌then◌else◌};
+ghost use Rattle.std.specs.Prelude.{◌≡◌, ◌≤◌, ◌<◌, ◌+◌, ◌*◌, ◌^◌, ◌&&◌, ◌||◌, ◌==◌, not, true, false, ℕ, length, get_or, set, if◌then◌else◌};
 ghost use Rattle.fixed_point.specs.Vectors.{FitsEach, IsAtMost, origin, negative, plus};
 ghost use Rattle.cell_space.specs.Cells.{before, same_place};
 ghost use Rattle.nbody_model.specs.Bodies.{BodyData};
 ghost use Rattle.nbody_model.specs.Covers.{opening_of};
 ghost use Rattle.nbody_model.specs.PairForce.{pair};
 ghost use Rattle.model_laws.specs.Laws.{AreBodies};
-ghost use Rattle.model_laws.specs.Firsts.{stands_for};
 ghost use Rattle.force_field.specs.Around.{AreNodesOf};
-ghost use Rattle.force_field.specs.Pairs.{AreTotals, IsPart, MayAct};
+ghost use Rattle.force_field.specs.Pairs.{AreTotals, IsPart, MayAct, counted_by};
 ghost use Rattle.force_field.specs.Grouped.{gravity_of};
 
 use crate::covers::{Grouped, cover_levels, position};
@@ -122,7 +121,7 @@ pub(crate) fn find_totals(all: &Grouped, i: usize, totals: &mut [V3]) -> u64
     requires long { length totals.old ≡ 33 }
     ensures long { length totals.new ≡ 33 }
     ensures totals { (b : BodyData) → AreTotals (gravity_of all.now) all.now.bodies.now (get_or all.now.bodies.now i b) totals.new }
-    ensures count { (b : BodyData) → result ≡ count_by (stands_for (opening_of all.now.setup.now all.now.bodies.now) all.now.bodies.now (get_or all.now.bodies.now i b)) all.now.bodies.now }
+    ensures count { (b : BodyData) → result ≡ counted_by (opening_of all.now.setup.now all.now.bodies.now) all.now.bodies.now (get_or all.now.bodies.now i b) }
     ensures few { result ≤ length all.now.bodies.now }
 {
     totals.fill(V3::ZERO);

@@ -1,6 +1,7 @@
 -- The sums of two lists together.
-use Rattle.std.specs.Prelude.{ℕ, ◌+◌, min, max, List, [], ◌∷◌, slice_index}
-use Rattle.node_moments.specs.Sums.{RawData}
+use Rattle.std.specs.Prelude.{◌≡◌, ℕ, ◌+◌, min, max, List, [], ◌∷◌, ◌++◌, slice_index}
+use Rattle.nbody_model.specs.Bodies.{BodyData}
+use Rattle.node_moments.specs.Sums.{RawData, raw_of}
 
 abbrev pub plus_at : List ℕ → List ℕ → ℕ → ℕ
 plus_at xs ys k = slice_index xs k + slice_index ys k
@@ -23,3 +24,7 @@ joined a b = record {
   hi = max_at a.hi b.hi 0 ∷ max_at a.hi b.hi 1 ∷ max_at a.hi b.hi 2 ∷ [];
   eps = max a.eps b.eps;
 }
+
+-- sums over two lists in one cell become those over both
+abbrev pub Joins : RawData → RawData → RawData → Type 0
+Joins a b r = (soft : List ℕ) (ms ns : List BodyData) → a ≡ raw_of soft a.cell ms → b ≡ raw_of soft b.cell ns → r ≡ raw_of soft a.cell (ms ++ ns)

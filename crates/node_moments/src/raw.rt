@@ -1,9 +1,8 @@
 // Sums over the members of a cell.
-ghost use Rattle.std.specs.Prelude.{◌≡◌, ◌≤◌, ◌<◌, ◌+◌, ◌-◌, ◌*◌, ◌/◌, ◌^◌, ◌∷◌, [], ◌++◌, List, ℕ, true, slice_index};
+ghost use Rattle.std.specs.Prelude.{◌≡◌, ◌≤◌, ◌<◌, ◌+◌, ◌-◌, ◌*◌, ◌/◌, ◌^◌, ◌∷◌, [], true, slice_index};
 ghost use Rattle.cell_space.specs.Cells.{contains, corner, place};
-ghost use Rattle.nbody_model.specs.Bodies.{BodyData};
 ghost use Rattle.node_moments.specs.Sums.{raw_of};
-ghost use Rattle.node_moments.specs.Joined.{joined};
+ghost use Rattle.node_moments.specs.Joined.{Joins, joined};
 
 use cell_space::Cell;
 use nbody_model::Body;
@@ -98,7 +97,7 @@ impl Raw {
         requires same_cell { self.now.cell ≡ other.now.cell }
         requires few { self.now.count + other.now.count ≤ 1048576 }
         requires light { self.now.mass + other.now.mass ≤ 2 ^ 32 }
-        ensures { (soft : List ℕ) (ms ns : List BodyData) → self.now ≡ raw_of soft self.now.cell ms → other.now ≡ raw_of soft other.now.cell ns → result ≡ raw_of soft self.now.cell (ms ++ ns) }
+        ensures { Joins self.now other.now result }
     {
         self.joined(other)
     }

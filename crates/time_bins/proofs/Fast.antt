@@ -57,13 +57,9 @@ pub rising : {X : Type 0} (t : X → Bool) (n : ℕ) (xs : List X) → IsStrictl
 rising t n [] = λ k lt. absurd (omega arith)
 rising t n (x ∷ xs) = subst IsStrictlyIncreasing (sym (step t n x xs)) (rising_cons n (n + 1 + length xs) (numbers t (n + 1) xs) (t x) (between t (n + 1) xs) (rising t (n + 1) xs))
 
-map_cond : (u : ℕ → ℕ) (n : ℕ) (ns : List ℕ) (b : Bool) → map u (cond b (n ∷ ns) ns) ≡ cond b (u n ∷ map u ns) (map u ns)
-map_cond u n ns true = refl
-map_cond u n ns false = refl
-
-id_cond : {X : Type 0} (id : X → ℕ) (x : X) (xs : List X) (b : Bool) → map id (cond b (x ∷ xs) xs) ≡ cond b (id x ∷ map id xs) (map id xs)
-id_cond id x xs true = refl
-id_cond id x xs false = refl
+pub map_cond : {X : Type 0} (id : X → ℕ) (x : X) (xs : List X) (b : Bool) → map id (cond b (x ∷ xs) xs) ≡ cond b (id x ∷ map id xs) (map id xs)
+map_cond id x xs true = refl
+map_cond id x xs false = refl
 
 named : {X : Type 0} (t : X → Bool) (id : X → ℕ) (u : ℕ → ℕ) (n : ℕ) (xs : List X) → ((k : ℕ) (d : X) → k < length xs → u (n + k) ≡ id (get_or xs k d)) → map u (numbers t n xs) ≡ map id (filter t xs)
 named t id u n [] h = refl
@@ -71,14 +67,14 @@ named t id u n (x ∷ xs) h =
     let zeroth : n + 0 ≡ n = omega arith in
     let here : u n ≡ id x = ap u (sym zeroth) ∙ h 0 x (omega arith) in
     let rest : map u (numbers t (n + 1) xs) ≡ map id (filter t xs) = named t id u (n + 1) xs (λ k d lt. let e : n + 1 + k ≡ n + suc k = omega arith in ap u e ∙ h (suc k) d (omega arith)) in
-    ap (map u) (step t n x xs) ∙ map_cond u n (numbers t (n + 1) xs) (t x) ∙ (λ i. cond (t x) (here i ∷ rest i) (rest i)) ∙ sym (id_cond id x (filter t xs) (t x))
+    ap (map u) (step t n x xs) ∙ map_cond u n (numbers t (n + 1) xs) (t x) ∙ (λ i. cond (t x) (here i ∷ rest i) (rest i)) ∙ sym (map_cond id x (filter t xs) (t x))
 
 forced : (s : SetupData) (bin : ℕ) (h : BodyData → V3) (B : List BodyData) → map (λ (p : BodyData × V3). p.0.id) (filter (unfit s bin) (zip B (map h B))) ≡ map (λ b. b.id) (filter (λ b. not (fits s b (h b) bin)) B)
 forced s bin h [] = refl
 forced s bin h (b ∷ B) =
-    id_cond (λ (p : BodyData × V3). p.0.id) (b, h b) (filter (unfit s bin) (zip B (map h B))) (not (fits s b (h b) bin))
+    map_cond (λ (p : BodyData × V3). p.0.id) (b, h b) (filter (unfit s bin) (zip B (map h B))) (not (fits s b (h b) bin))
     ∙ ap (λ ids. cond (not (fits s b (h b) bin)) (b.id ∷ ids) ids) (forced s bin h B)
-    ∙ sym (id_cond (λ (o : BodyData). o.id) b (filter (λ o. not (fits s o (h o) bin)) B) (not (fits s b (h b) bin)))
+    ∙ sym (map_cond (λ (o : BodyData). o.id) b (filter (λ o. not (fits s o (h o) bin)) B) (not (fits s b (h b) bin)))
 
 pub unfit_within : (s : SetupData) (bin : ℕ) (B : List BodyData) (fs : List V3) → length fs ≡ length B → (k : ℕ) → k < length (unfit_places s bin B fs) → get_or (unfit_places s bin B fs) k 0 < length B
 unfit_within s bin B fs e k lt = let r = between (unfit s bin) 0 (zip B fs) k lt in omega (arith, r.1, length-zip B fs, e)

@@ -22,18 +22,23 @@ fn along_x(x: i128) -> V3 {
 
 #[test]
 fn a_force_at_its_limit_fits(rt: HostRuntime) -> Result<(), Fail> {
-    if let Some(motion) = Motion::new([0, 0, 0], [0, 0, 0]) {
-        let body = Body {
-            id: 1,
-            kind: 1,
-            mass: 1024,
-            motion,
-        };
-        assert!(rt; fits(&setup(), &body, &along_x(999_904), 1));
-        assert!(rt; !fits(&setup(), &body, &along_x(-999_905), 1));
-        let forces = [along_x(999_904), along_x(999_905)];
-        let places = fast_part(rt.alloc(), &setup(), &[body, body], &forces, 1);
-        assert!(rt; places.is_ok_and(|places| places.len() == 1 && places[0] == 1));
+    let motion = Motion::new([0, 0, 0], [0, 0, 0]).ok_or("range")?;
+    let body = Body {
+        id: 1,
+        kind: 1,
+        mass: 1024,
+        motion,
+    };
+    for (force, want) in [
+        (999_904, true),
+        (999_905, false),
+        (-999_904, true),
+        (-999_905, false),
+    ] {
+        assert_eq!(rt; fits(&setup(), &body, &along_x(force), 1), want);
     }
+    let forces = [along_x(999_904), along_x(999_905)];
+    let places = fast_part(rt.alloc(), &setup(), &[body, body], &forces, 1)?;
+    assert_eq!(rt; places.as_slice(), [1].as_slice());
     Ok(())
 }

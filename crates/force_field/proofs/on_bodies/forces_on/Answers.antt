@@ -1,6 +1,6 @@
 use Rattle.std.proofs.Common.{◌^◌, arith}
 use Rattle.std.specs.List.{count_by}
-use Rattle.fixed_point.specs.Vectors.{IsAtMost}
+use Rattle.fixed_point.specs.Vectors.{IsBelow}
 use Rattle.nbody_model.specs.Covers.{opening_of}
 use Rattle.model_laws.specs.Firsts.{stands_for}
 use Rattle.force_field.specs.Grouped.{gravity_of}
@@ -14,7 +14,7 @@ loop-i-preserved c =
     let g = gravity_of c.args.all.now in
     record {
       so_far = forces-more g B c.loop-i.i nobody c.loop-i.forces.items c.push.new.self.items c.in_ok-force_on_body.field-0 c.loop-i-test.true c.loop-i.invariant.so_far (c.in_ok-force_on_body.ensures.value nobody) c.in_ok-push.ensures.items;
-      small = each-more (IsAtMost (2 ^ 118)) c.loop-i.forces.items c.push.new.self.items c.in_ok-force_on_body.field-0 c.loop-i.invariant.small c.in_ok-force_on_body.ensures.small c.in_ok-push.ensures.items;
+      small = each-more (IsBelow (2 ^ 118)) c.loop-i.forces.items c.push.new.self.items c.in_ok-force_on_body.field-0 c.loop-i.invariant.small c.in_ok-force_on_body.ensures.small c.in_ok-push.ensures.items;
       counted = counts-more (λ b. count_by (stands_for (opening_of c.args.all.now.setup.now B) B b) B) B c.loop-i.i nobody c.loop-i.interactions c.find_totals.result c.loop-i-test.true c.loop-i.invariant.counted (c.find_totals.ensures.count nobody);
       few = omega (arith, c.loop-i.invariant.few, c.find_totals.ensures.few, c.requires.bodies.valid.few);
       room = c.in_ok-force_on_body.ensures.room;
