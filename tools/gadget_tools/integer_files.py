@@ -110,10 +110,12 @@ def list_blocks(name, data):
             raise Fault(name, "byte %d" % at, "the file ends inside a block's frame")
         if words[0] != 8:
             raise Fault(name, "byte %d" % at, "a name record begins with %d in place of 8: no block of format 2" % words[0])
-        if left < 20:
+        if left < 16:
             raise Fault(name, "byte %d" % at, "the file ends inside a name record")
         if words[3] != 8:
             raise Fault(name, "byte %d" % (at + 12), "a name record ends with %d in place of 8" % words[3])
+        if left < 20:
+            raise Fault(name, "byte %d" % (at + 16), "the file ends before a block's contents")
         length = words[4]
         if words[2] != (length + 8) % 2**32:
             raise Fault(name, "byte %d" % (at + 8), "the way to the next block is %d, and the block has %d bytes" % (words[2], length))

@@ -86,7 +86,7 @@ def parameter_of(name, line, key, word):
 
 
 def read_parameters(path):
-    """The Parameters of a file, or its first fault. `gadget check` besides looks at clashing names."""
+    """The Parameters of a file, or its first fault."""
     name, text = lines_of(path)
     values, lines = {}, {}
     for line, content in enumerate(text.split("\n"), 1):
@@ -105,14 +105,30 @@ def read_parameters(path):
         if key not in values and default is None:
             raise Fault(name, "", "%s is missing" % key)
         values.setdefault(key, default if default != "" else None)
-    if values["LowBin"] > values["TopBin"]:
-        raise Fault(name, "line %d" % max(lines["LowBin"], lines["TopBin"]), "LowBin is above TopBin")
+    check_together(name, values, lines)
     return Parameters(name, values)
+
+
+def check_together(name, values, lines):
+    """The order of the bins, and names of files that would meet: equal ones, or one that goes on from another with `_`."""
+    if values["LowBin"] > values["TopBin"]:
+        raise Fault(name, place_of(lines, "LowBin", "TopBin"), "LowBin is above TopBin")
+    names = [key for key, limits, _ in PARAMETERS if limits is None and values.get(key) is not None]
+    for place, first in enumerate(names):
+        for second in names[place + 1:]:
+            one, other = values[first], values[second]
+            if one == other or one.startswith(other + "_") or other.startswith(one + "_"):
+                raise Fault(name, place_of(lines, first, second), "%s %s and %s %s are names that clash" % (first, one, second, other))
+
+
+def place_of(lines, *keys):
+    return "line %d" % max(lines.get(key, 0) for key in keys) if lines else ""
 
 
 def parameter_bytes(values, comment=()):
     """A parameter file with these values, in the order of the table; what isn't given keeps its default."""
     lines = ["% " + line for line in comment]
+    check_together("the parameters", {key: values.get(key, default) or None for key, _, default in PARAMETERS}, {})
     for key, limits, default in PARAMETERS:
         if key in values and values[key] is not None:
             parameter_of("the parameters", 0, key, str(values[key]))
