@@ -1,4 +1,6 @@
 """What the tests of the tools share: the program, the command line, and a few runs."""
+import contextlib
+import io
 import os
 import pathlib
 import subprocess
@@ -13,12 +15,28 @@ sys.dont_write_bytecode = True
 
 
 class Answer:
-    def __init__(self, done):
-        self.status, self.out, self.err = done.returncode, done.stdout.strip(), done.stderr.strip()
+    def __init__(self, status, out, err):
+        self.status, self.out, self.err = status, out.strip(), err.strip()
 
 
 def call(words, folder):
-    return Answer(subprocess.run([str(word) for word in words], cwd=folder, stdin=subprocess.DEVNULL, capture_output=True, text=True))
+    done = subprocess.run([str(word) for word in words], cwd=folder, stdin=subprocess.DEVNULL, capture_output=True, text=True)
+    return Answer(done.returncode, done.stdout, done.stderr)
+
+
+def call_within(words, folder):
+    """The same of the tools' command line, in this process: its packages take seconds to load."""
+    from gadget_tools.command_line import main
+    out, err, here = io.StringIO(), io.StringIO(), os.getcwd()
+    os.chdir(folder)
+    try:
+        with contextlib.redirect_stdout(out), contextlib.redirect_stderr(err):
+            status = main([str(word) for word in words])
+    except SystemExit as end:
+        status = end.code
+    finally:
+        os.chdir(here)
+    return Answer(status, out.getvalue(), err.getvalue())
 
 
 @pytest.fixture(scope="session")
@@ -31,7 +49,7 @@ def program():
 @pytest.fixture(scope="session")
 def tools():
     """A call of the command line of the tools."""
-    return lambda folder, *words: call((TOOLS, *words), folder)
+    return lambda folder, *words: call_within(words, folder)
 
 
 @pytest.fixture(scope="session")
