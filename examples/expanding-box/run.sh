@@ -13,5 +13,5 @@ cd "${1:-expanding-box-run}"
 "$tools" start waves ics.dat param.txt --expansion-table expansion.dat --ewald-table ewald.dat --bodies 1009 --most 2 \
     --height 1 --softening 0.02 --accuracy 65536 --low-bin 8 --snapshots 4
 "$program" run param.txt 1
-"$tools" plot density snapshot_004 waves.png --pixels 64 --units param.txt.units.json
+"$tools" plot density snapshot_000 snapshot_002 snapshot_004 waves.png --pixels 64 --units param.txt.units.json
 "$tools" plot kicks kicks.txt kicks.png

@@ -18,7 +18,7 @@ def colours_of(path):
 def test_density(sphere, made, tmp_path):
     folder, _ = sphere
     made(tmp_path, "plot", "density", folder / "ics.dat", "a.png", "--units", folder / "param.txt.units.json")
-    made(tmp_path, "plot", "density", folder / "snapshot_002", "b.png", "--axis", "x", "--width", 0.25, "--pixels", 64)
+    made(tmp_path, "plot", "density", folder / "snapshot_000", folder / "snapshot_002", "b.png", "--axis", "x", "--width", 0.25, "--pixels", 64)
     assert colours_of(tmp_path / "a.png") > 20 and colours_of(tmp_path / "b.png") > 20
     made(tmp_path, "plot", "density", folder / "restart_000", "c.png")
     assert (tmp_path / "a.png").read_bytes() != (tmp_path / "c.png").read_bytes()

@@ -95,13 +95,8 @@ def begin_files(args, bodies, units, values, report, inputs):
 def do_to_float(args):
     from .convert import to_float
     from .float_files import float_bytes
-    from .integer_files import Restart, Snapshot
-    from .reading import read
     from .units import read_units
-    source = read(args.source)
-    if not isinstance(source, (Snapshot, Restart)):
-        raise Fault(args.source, "", "it is no snapshot in whole numbers and no restart file")
-    units = read_units(args.units)
+    source, units = state_of(args.source), read_units(args.units)
     result = to_float(source, units)
     if args.type_1:
         result.kind[:] = 1
@@ -162,18 +157,24 @@ def do_start_waves(args):
 
 
 def do_plot_density(args):
-    from .integer_files import Restart, Snapshot
     from .pictures import density_picture
-    from .reading import read
     from .units import read_units
-    snapshot = read(args.source)
-    if not isinstance(snapshot, (Snapshot, Restart)):
-        raise Fault(args.source, "", "it is no snapshot in whole numbers and no restart file")
-    time = None
+    snapshots, times, args.inputs = [state_of(name) for name in args.sources], None, args.sources
     if args.units:
         units = read_units(args.units)
-        time = "%s %.4g" % ("a" if units.expansion else "time", units.time_at(snapshot.tick))
-    put_picture(args, density_picture(snapshot, time, axis="xyz".index(args.axis), pixels=args.pixels, width=args.width, centre=args.centre))
+        times = ["%s = %.4g" % ("a" if units.expansion else "time", units.time_at(snapshot.tick)) for snapshot in snapshots]
+        args.inputs = args.sources + [args.units]
+    put_picture(args, density_picture(snapshots, times, axis="xyz".index(args.axis), pixels=args.pixels, width=args.width, centre=args.centre))
+
+
+def state_of(name):
+    """The Snapshot or Restart of a file, or a refusal of every other kind of file."""
+    from .integer_files import Restart, Snapshot
+    from .reading import read
+    thing = read(name)
+    if not isinstance(thing, (Snapshot, Restart)):
+        raise Fault(name, "", "it is no snapshot in whole numbers and no restart file")
+    return thing
 
 
 def do_plot_kicks(args):
@@ -196,7 +197,7 @@ def do_plot_groups(args):
 
 
 def put_picture(args, data):
-    outputs = Outputs(args.force, getattr(args, "inputs", [args.source]))
+    outputs = Outputs(args.force, args.inputs or [args.source])
     outputs.put(args.out, data)
     outputs.write()
     print("written: " + args.out)
@@ -302,17 +303,20 @@ def add_plots(words):
 
     def picture(word, text, call, source):
         parser = plot.add_parser(word, help=text)
-        parser.add_argument("source", metavar=source)
+        if source == "SNAP":
+            parser.add_argument("sources", nargs="+", metavar=source)
+        else:
+            parser.add_argument("source", metavar=source)
         parser.add_argument("out", metavar="OUT.png")
         with_force(parser)
-        parser.set_defaults(call=call)
+        parser.set_defaults(call=call, inputs=None)
         return parser
-    parser = picture("density", "the log of the column density of a snapshot or restart file", do_plot_density, "SNAP")
+    parser = picture("density", "the log of the column density of snapshots or restart files, side by side", do_plot_density, "SNAP")
     parser.add_argument("--axis", choices=tuple("xyz"), default="z", help="look along this axis (default z)")
     parser.add_argument("--pixels", type=whole(2, 4096), default=256, help="a side, taken up to a power of two (default 256)")
     parser.add_argument("--width", type=number_above_zero, default=1.0, help="of the view in boxes: 1, 0.5, 0.25 .. (default 1)")
     parser.add_argument("--centre", type=float, nargs=3, default=(0.5, 0.5, 0.5), metavar=("X", "Y", "Z"), help="of the view in boxes (default the middle)")
-    parser.add_argument("--units", metavar="FILE", help="PARAM.units.json, for the time in the title")
+    parser.add_argument("--units", metavar="FILE", help="PARAM.units.json, for the times above the pictures")
     picture("kicks", "the kick file: bins used, interactions, and the total momentum as a flat line", do_plot_kicks, "KICKS")
     parser = picture("pairs", "pair counts by distance, from what `gadget pairs` is to print (not built yet)", do_plot_pairs, "TEXT")
     parser.add_argument("--first", type=whole(1, 1 << 31), required=True, help="the outer edge of the first shell in length units")

@@ -38,23 +38,21 @@ def column_density(pos, mass, axis=2, pixels=256, width=1.0, centre=(0.5, 0.5, 0
     return grid / mean, across, [corner[a] / 2**32 for a in across], 2.0**-zoom
 
 
-def draw_density(axes, snapshot, **view):
-    grid, across, corner, side = column_density(snapshot.bodies.pos, snapshot.bodies.mass, **view)
-    if not grid.any():
-        raise Fault(snapshot.name, "", "no body is in this view")
-    low = grid[grid > 0].min() / 2
-    extent = (corner[0], corner[0] + side, corner[1], corner[1] + side)
-    image = axes.imshow(numpy.maximum(grid, low), origin="lower", extent=extent, norm=LogNorm(vmin=low, vmax=max(grid.max(), 4 * low)), cmap="inferno", interpolation="nearest")
-    axes.set(xlabel="xyz"[across[0]] + " / box", ylabel="xyz"[across[1]] + " / box")
-    return image
-
-
-def density_picture(snapshot, time=None, **view):
-    """The log of the column density of a Snapshot or Restart."""
-    figure, axes = pyplot.subplots(figsize=(6, 5))
-    image = draw_density(axes, snapshot, **view)
-    figure.colorbar(image, label="column density / mean of the box")
-    axes.set_title("tick %d%s, %d bodies" % (snapshot.tick, "" if time is None else " (%s)" % time, len(snapshot.bodies)))
+def density_picture(snapshots, times=None, **view):
+    """The logs of the column densities of Snapshots or Restarts, side by side and by one scale."""
+    views = [column_density(snapshot.bodies.pos, snapshot.bodies.mass, **view) for snapshot in snapshots]
+    for snapshot, (grid, _, _, _) in zip(snapshots, views):
+        if not grid.any():
+            raise Fault(snapshot.name, "", "no body is in this view")
+    low = min(grid[grid > 0].min() for grid, _, _, _ in views) / 2
+    norm = LogNorm(vmin=low, vmax=max(4 * low, *(grid.max() for grid, _, _, _ in views)))
+    figure, row = pyplot.subplots(1, len(views), figsize=(6 if len(views) == 1 else 3.6 * len(views), 5 if len(views) == 1 else 3.6), squeeze=False, layout="constrained")
+    for axes, snapshot, time, (grid, across, corner, side) in zip(row[0], snapshots, times or [None] * len(views), views):
+        extent = (corner[0], corner[0] + side, corner[1], corner[1] + side)
+        image = axes.imshow(numpy.maximum(grid, low), origin="lower", extent=extent, norm=norm, cmap="inferno", interpolation="nearest")
+        axes.set(xlabel="xyz"[across[0]] + " / box", ylabel="xyz"[across[1]] + " / box")
+        axes.set_title(time or "tick %d, %d bodies" % (snapshot.tick, len(snapshot.bodies)))
+    figure.colorbar(image, ax=row[0], label="column density / mean of the box")
     return png_of(figure)
 
 
