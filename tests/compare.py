@@ -5,12 +5,12 @@
 
 The kinds are forces, bins, tables, expansions, parameters, lists, snapshots, runs, restarts and sessions; without
 `--kinds` all of them. OTHER.. is the command line of the other program, behind `--` where it has options; the words
-of a case are put behind it. Each case is made from the seed and its number: some files and some words. Both programs
-are run on them in folders of their own, and their status, what they print and all files that they leave are compared.
-Of a usage line the other program's may go on with more commands. A case of `sessions` has many calls: a run unbroken,
-the same run stopped at each of its questions in turn, and a resumed run from each restart file; resumed runs are
-compared with the unbroken one too. One case of `restarts` in 300 has a call for each length to which a restart file
-can be cut.
+of a case are put behind it. Each case is made from the seed and its number: some files, whose bodies are of the kinds
+1 to 5, and some words. Both programs are run on them in folders of their own, and their status, what they print and
+all files that they leave are compared. Of a usage line the other program's may go on with more commands. A case of
+`sessions` has many calls: a run unbroken, the same run stopped at each of its questions in turn, and a resumed run
+from each restart file; resumed runs are compared with the unbroken one too. One case of `restarts` in 300 has a call
+for each length to which a restart file can be cut.
 Each difference is printed with the case's folder, which is then kept. A case that `gadget` answers `not built` is
 counted apart. The last line tells the numbers; the exit status is 0 where nothing differs.
 """
@@ -66,10 +66,14 @@ def snapshot(bodies, tick=0, number=0):
     ])
 
 
+def some_kind(rng):
+    return rng.choice([1, 1, 1, 2, 3, 4, 5])
+
+
 def some_bodies(rng, most, spread=2**32):
     ids = rng.sample(range(1, 40), rng.randint(0, most))
     centre = [rng.choice([0, 1, 2**31, 2**32 - 1, rng.randrange(2**32)]) for _ in range(3)]
-    return [dict(id=i, kind=rng.choice([1, 1, 1, 2, 5]), mass=rng.choice([1, 1024, 2**20, rng.randint(1, 2**24)]),
+    return [dict(id=i, kind=some_kind(rng), mass=rng.choice([1, 1024, 2**20, rng.randint(1, 2**24)]),
                  pos=[(c + rng.randrange(spread) - spread // 2) % 2**32 for c in centre],
                  mom=[rng.choice([0, 0, rng.randint(-2**40, 2**40)]) for _ in range(3)]) for i in ids]
 
@@ -284,7 +288,7 @@ def near_bodies(rng, least, most):
     ids = rng.sample(range(1, 60), rng.randint(least, most))
     heavy = rng.choice([[1], [1024], [2**20], [1, 7, 1024, 2**20, 2**24]])
     fast = rng.choice([0, 0, 2**30, 2**50])
-    return [dict(id=i, kind=rng.choice([1, 1, 1, 2, 5]), mass=rng.choice(heavy),
+    return [dict(id=i, kind=some_kind(rng), mass=rng.choice(heavy),
                  pos=[(c + rng.randrange(spread) - spread // 2) % 2**32 for c in rng.choice(centres)],
                  mom=[rng.randint(-fast, fast) for _ in range(3)]) for i in ids]
 
@@ -293,7 +297,8 @@ def forces(rng):
     bin_ = rng.randint(1, 6)
     changes = [("TimeMax", 2**bin_ * rng.choice([1, 1, 2])), ("LowBin", bin_), ("TopBin", bin_), ("ErrTolTheta", rng.choice([0, 1, 128, 256, 256, 200])),
                ("VelocityShift", rng.choice([4, 20, 40])), ("ErrTolIntAccuracy", 65536), ("GravityConstantInternal", rng.choice([1048576, 2**32, 2**32])),
-               ("SofteningType1", rng.choice([256, 4096])), ("SofteningType2", rng.choice([8192, 2**30])), ("SofteningType5", 300)]
+               ("SofteningType1", rng.choice([256, 4096])), ("SofteningType2", rng.choice([8192, 2**30])), ("SofteningType3", rng.choice([257, 2**20])),
+               ("SofteningType4", rng.choice([256, 5000])), ("SofteningType5", 300)]
     files = {"ics.dat": snapshot(near_bodies(rng, 2, 12))}
     if rng.random() < 0.5:
         changes.append(("EwaldTableFile", "table.dat"))
@@ -330,7 +335,7 @@ def bins(rng):
     last = -(-time_max // 2**top) * 2**top
     changes = [("TimeMax", time_max), ("LowBin", low), ("TopBin", top), ("ErrTolTheta", rng.choice([0, 0, 128, 256])),
                ("VelocityShift", rng.choice([0, 2, 4, 4, 6, 10])), ("ErrTolIntAccuracy", rng.choice([65536, 65536, 31246, 2000, 60])),
-               ("GravityConstantInternal", rng.choice([1024, 1048576, 2**26, 2**32])), ("SofteningType2", 8192)]
+               ("GravityConstantInternal", rng.choice([1024, 1048576, 2**26, 2**32])), ("SofteningType2", 8192), ("SofteningType4", 1024)]
     bodies = near_bodies(rng, 2, 8)
     if rng.random() < 0.3:
         put_on_edge(rng, bodies)
