@@ -1,6 +1,7 @@
 -- The worked case, computed.
 use Rattle.std.proofs.Common.{◌≡◌, ℕ, List, [], refl, arith, ◌∙◌}
 use Rattle.cell_space.specs.Cells.{digit}
+use Rattle.hilbert_keys.specs.Curve.{along, place_of, next_turn}
 use Rattle.nbody_model.specs.Nodes.{is_node, is_leaf}
 use Rattle.nbody_model.specs.Moments.{moments}
 use Rattle.nbody_model.specs.OpeningRule.{accept}
@@ -13,33 +14,37 @@ use Rattle.rank_laws.specs.Whole.{in_order, counted, rules_of}
 use Rattle.rank_laws.specs.Contents.{own_nodes, part_on, touched, wanted, part_for}
 use Rattle.rank_laws.specs.Played.{events_by, end_by}
 use Rattle.rank_laws.proofs.Computed.{plays_computed}
-use Rattle.rank_worked.specs.Worked.{key_from, two_ranks, by_list, by_last, first_trace, last_trace, NodesAreCounted, CellsAreNeeded, FirstPlay, LastPlay, OneKeyIsEnough}
+use Rattle.rank_worked.specs.Worked.{two_ranks, BoundsAreTold, by_list, by_last, first_trace, last_trace, NodesAreCounted, CellsAreNeeded, FirstPlay, LastPlay, OneKeyIsEnough}
+
+pub bounds_are : BoundsAreTold
+unfolding along place_of next_turn digit
+bounds_are = refl
 
 pub nodes_are : NodesAreCounted
-unfolding own_nodes two_ranks is_node is_leaf in_order key_from digit
+unfolding own_nodes two_ranks is_node is_leaf in_order along place_of next_turn digit
 nodes_are = refl
 
 pub needs_are : CellsAreNeeded
-unfolding need two_ranks is_node is_leaf tree gives moments accept rank_of_key in_order key_from digit
+unfolding need two_ranks is_node is_leaf tree gives moments accept rank_of_key in_order along place_of next_turn digit
 needs_are = refl
 
 first_events : events_by by_list two_ranks 30 (start_world (rules_of two_ranks)) [] ≡ first_trace
-unfolding events_by own_nodes need list_after done_after action enabled numbered counted part_on touched wanted part_for two_ranks is_node is_leaf tree gives moments accept rank_of_key in_order key_from digit
+unfolding events_by own_nodes need list_after done_after action enabled numbered counted part_on touched wanted part_for two_ranks is_node is_leaf tree gives moments accept rank_of_key in_order along place_of next_turn digit
 first_events = refl
 
 first_end : enabled (machine (rules_of two_ranks)) (end_by by_list two_ranks 30 (start_world (rules_of two_ranks)) []) ≡ 0
-unfolding end_by need list_after done_after action enabled numbered two_ranks is_node is_leaf tree gives moments accept rank_of_key in_order key_from digit
+unfolding end_by need list_after done_after action enabled numbered two_ranks is_node is_leaf tree gives moments accept rank_of_key in_order along place_of next_turn digit
 first_end = refl
 
 pub first_plays : FirstPlay
 first_plays es z b h = (plays_computed by_list two_ranks 30 (start_world (rules_of two_ranks)) [] first_end es z b h).0 ∙ first_events
 
 last_events : events_by by_last two_ranks 30 (start_world (rules_of two_ranks)) [] ≡ last_trace
-unfolding events_by own_nodes need list_after done_after action enabled numbered counted part_on touched wanted part_for two_ranks is_node is_leaf tree gives moments accept rank_of_key in_order key_from digit
+unfolding events_by own_nodes need list_after done_after action enabled numbered counted part_on touched wanted part_for two_ranks is_node is_leaf tree gives moments accept rank_of_key in_order along place_of next_turn digit
 last_events = refl
 
 last_end : enabled (machine (rules_of two_ranks)) (end_by by_last two_ranks 30 (start_world (rules_of two_ranks)) []) ≡ 0
-unfolding end_by need list_after done_after action enabled numbered two_ranks is_node is_leaf tree gives moments accept rank_of_key in_order key_from digit
+unfolding end_by need list_after done_after action enabled numbered two_ranks is_node is_leaf tree gives moments accept rank_of_key in_order along place_of next_turn digit
 last_end = refl
 
 pub last_plays : LastPlay
