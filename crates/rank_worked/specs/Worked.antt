@@ -12,7 +12,7 @@ use Rattle.rank_laws.specs.Protocol.{World}
 use Rattle.rank_laws.specs.Machine.{Message, Rank, need, start_world}
 use Rattle.rank_laws.specs.Whole.{Whole, AreKeys, rules_of}
 use Rattle.rank_laws.specs.Contents.{own_nodes}
-use Rattle.rank_laws.specs.Played.{Picks, IsPlayed}
+use Rattle.rank_laws.specs.Played.{Picks, IsPlayed, PlaysTo}
 use Rattle.rank_curve_laws.specs.Along.{bounds_of, divided}
 
 -- ---- the case
@@ -37,9 +37,11 @@ by_list = record { answer = first_of_list; after = rest_of_list }
 abbrev pub by_last : Picks
 by_last = record { answer = last_of; after = λ a n. a }
 
--- every play from the start, by the empty list of numbers, has these events
-abbrev pub IsTrace : Picks → List Event → Type 0
-IsTrace p trace = (es : List Event) (z : World Rank Message) (b : List ℕ) → IsPlayed p two_ranks (start_world (rules_of two_ranks)) [] es z b → es ≡ trace
+-- the play from the start has these events, and there is no other
+pub record IsTrace (p : Picks) (trace : List Event) : Type 0 where
+  pub last : World Rank Message
+  pub there : PlaysTo p two_ranks (start_world (rules_of two_ranks)) [] trace last
+  pub only : (es : List Event) (z : World Rank Message) (b : List ℕ) → IsPlayed p two_ranks (start_world (rules_of two_ranks)) [] es z b → es ≡ trace
 
 -- a rank acts, with this size; a message comes from one rank to another
 abbrev pub acts : EventKind → ℕ → ℕ → Event
