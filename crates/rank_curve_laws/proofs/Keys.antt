@@ -1,17 +1,15 @@
 -- The keys of cells along the curve as keys of ranks.
-use Rattle.std.proofs.Common.{◌≡◌, ℕ, ◌+◌, ◌-◌, ◌*◌, ◌/◌, ◌<◌, ◌≤◌, Bool, true, false, eqb, ltb, ◌&&◌, ◌||◌, length, ◌^◌, refl, ap, sym, subst, ◌∙◌, arith, ◌⊎◌, inl, inr, zero, suc}
+use Rattle.std.proofs.Common.{◌≡◌, ℕ, ◌+◌, ◌-◌, ◌*◌, ◌<◌, ◌≤◌, Bool, true, false, eqb, ltb, ◌&&◌, ◌||◌, length, ◌^◌, refl, ap, sym, subst, ◌∙◌, arith, ◌⊎◌, inl, inr, suc}
 use Rattle.std.proofs.Math.Nat.{div-mul-le_self, eq_of_mul-eq-mul_right}
-use Rattle.std.proofs.lemmas.Bool.{and_parts, ltb-true, lt-ltb, eq-eqb, false≢true, cases_lt, cases_order}
+use Rattle.std.proofs.lemmas.Bool.{and_parts, lt-ltb, eq-eqb, false≢true, cases_order}
 use Rattle.cell_space.specs.Cells.{Position, InBox, CellData, child, contains, corner, cell_at, digit, width_of}
 use Rattle.cell_space.proofs.Cells.{contains_child, contains-exact}
 use Rattle.hilbert_keys.specs.Curve.{along, keys_in, number_of, turn_of, place_of, first_key, last_key, IsCell}
-use Rattle.hilbert_keys.specs.Laws.{IsPlace}
 use Rattle.hilbert_keys.proofs.Curves.{child_number, each_place, one_cell, corner_cell}
 use Rattle.hilbert_keys.proofs.Widths.{some_keys}
-use Rattle.rank_laws.specs.Whole.{AreKeys, IsWhole, goes_first}
 use Rattle.rank_laws.proofs.ByIds.{owned_by}
 use Rattle.rank_laws.proofs.Plays.{shows_nothing}
-use Rattle.rank_curve_laws.specs.Along.{keys_along, divided, IsDivision, CurveHasKeys, CellsAreTold, EveryDivisionIsWhole, NoDivisionShows}
+use Rattle.rank_curve_laws.specs.Along.{divided, CurveHasKeys, CellsAreTold, EveryDivisionIsWhole, NoDivisionShows}
 
 -- ---- the keys of a child lie within those of its parent
 

@@ -1,5 +1,5 @@
 -- Ranks whose cells have their keys along the curve.
-use Rattle.std.specs.Prelude.{◌≡◌, ◌≤◌, ◌<◌, ◌^◌, ℕ, false, min, List, fold, length, map}
+use Rattle.std.specs.Prelude.{◌≡◌, ◌<◌, ◌^◌, ℕ, false, min, List, fold, length, map}
 use Rattle.std.specs.List.{AllByRecursion, range_with_len}
 use Rattle.cell_space.specs.Cells.{CellData}
 use Rattle.hilbert_keys.specs.Curve.{key, first_key, last_key, IsCell}

@@ -1,6 +1,6 @@
 -- What the entries of a rank give for a cell.
-use Rattle.std.proofs.Common.{◌≡◌, ℕ, zero, suc, ◌<◌, ◌≤◌, Bool, true, false, cond, not, ◌&&◌, ◌||◌, eqb, ltb, List, [], ◌∷◌, ◌++◌, map, refl, ap, sym, ◌∙◌, subst, arith, ◌⊎◌, inl, inr, Option, Some, None}
-use Rattle.std.specs.List.{filter, AllByRecursion}
+use Rattle.std.proofs.Common.{◌≡◌, ℕ, zero, suc, ◌<◌, ◌≤◌, Bool, true, false, cond, ◌&&◌, eqb, ltb, List, [], ◌∷◌, ◌++◌, map, refl, ap, sym, ◌∙◌, arith, ◌⊎◌, inl, inr, Some, None}
+use Rattle.std.specs.List.{filter}
 use Rattle.std.proofs.lemmas.Bool.{false≢true, and_parts, and_from, or_left, or_right, eqb-true, eq-eqb, lt-ltb, ltb-true, ne_eqb, cases_eq}
 use Rattle.cell_space.specs.Cells.{Position, InBox, CellData, corner, contains, child, digit, below, same_cell, place}
 use Rattle.cell_space.proofs.Cells.{both_equal, same_cell-exact, contains_child, digit_below}
@@ -8,7 +8,6 @@ use Rattle.cell_space.proofs.Nested.{nested, corner_contained}
 use Rattle.nbody_model.specs.Bodies.{BodyData}
 use Rattle.nbody_model.specs.Nodes.{positions_of, members, is_node, is_leaf}
 use Rattle.nbody_model.specs.Moments.{moments}
-use Rattle.model_laws.specs.Laws.{AreBodies}
 use Rattle.model_laws.proofs.Among.{Among, among-kept, among-filter, among-map, each-among}
 use Rattle.node_moments.specs.Sums.{RawData, raw_of, least, greatest, at_x, at_y, at_z}
 use Rattle.node_moments.specs.Shifted.{shifted}
@@ -20,10 +19,9 @@ use Rattle.rank_laws.specs.Homes.{home, in_span}
 use Rattle.rank_laws.specs.Whole.{Whole, IsWhole, own}
 use Rattle.rank_laws.specs.Contents.{EntryData, filled, entry_of, inside_leaf, own_nodes, is_told, table_sent}
 use Rattle.rank_laws.proofs.ByIds.{filter_on}
-use Rattle.rank_laws.proofs.Run.{each-range}
 use Rattle.rank_entry_laws.specs.Given.{HasSoftenings, at_one, is_around, seen_from, first_of, given, GivesOwnBodies}
 use Rattle.rank_entry_laws.proofs.OwnBodies.{own_bodies, own_kinds}
-use Rattle.rank_entry_laws.proofs.OwnTree.{FromMap, Of, among-mapped, among-append, BodyIn, body_in, node_from, own_node, IsOwnNode, is_own, LeafAround, leaf_around, spanned}
+use Rattle.rank_entry_laws.proofs.OwnTree.{FromMap, Of, among-mapped, among-append, BodyIn, body_in, node_from, own_node, is_own, LeafAround, leaf_around, spanned}
 
 -- ---- what stands at one place
 

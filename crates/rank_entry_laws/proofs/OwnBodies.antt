@@ -1,11 +1,11 @@
 -- The bodies of one rank keep the limits, and those of all ranks are all bodies.
-use Rattle.std.proofs.Common.{◌≡◌, ℕ, ◌+◌, ◌<◌, ◌≤◌, Bool, true, false, cond, eqb, List, [], ◌∷◌, ◌++◌, map, length, refl, ap, sym, ◌∙◌, arith, inl, inr}
-use Rattle.std.specs.List.{filter, flat_map, list_any, AllByRecursion}
-use Rattle.std.proofs.lemmas.Bool.{false≢true, eqb-true, eq-eqb}
+use Rattle.std.proofs.Common.{◌≡◌, ℕ, ◌≤◌, eqb, List, map, refl, ap, sym, ◌∙◌}
+use Rattle.std.specs.List.{filter, AllByRecursion}
+use Rattle.std.proofs.lemmas.Bool.{eqb-true, eq-eqb}
 use Rattle.cell_space.proofs.Cells.{both_equal}
 use Rattle.nbody_model.specs.Bodies.{BodyData, only, has}
 use Rattle.model_laws.specs.Laws.{AreBodies}
-use Rattle.model_laws.proofs.Among.{Among, Witness, any-witness, any-among, among-kept, among-filter, among-map, each-filter}
+use Rattle.model_laws.proofs.Among.{Witness, any-witness, any-among, among-kept, among-filter, among-map, each-filter}
 use Rattle.model_laws.proofs.Kept.{only_bodies}
 use Rattle.rank_laws.specs.Whole.{Whole, IsWhole, own}
 use Rattle.rank_laws.proofs.ByIds.{filter_on}

@@ -1,18 +1,17 @@
 -- The nodes of a rank's own tree, and the leaf around a cell that lies inside one.
-use Rattle.std.proofs.Common.{◌≡◌, ℕ, zero, suc, ◌+◌, ◌-◌, ◌<◌, ◌≤◌, Bool, true, false, not, ◌&&◌, ◌||◌, List, [], ◌∷◌, ◌++◌, map, refl, ap, sym, ◌∙◌, subst, arith, ◌⊎◌, inl, inr}
+use Rattle.std.proofs.Common.{◌≡◌, ℕ, zero, suc, ◌+◌, ◌-◌, ◌<◌, ◌≤◌, Bool, true, false, not, ◌||◌, List, [], ◌∷◌, ◌++◌, map, refl, ap, sym, ◌∙◌, subst, arith, ◌⊎◌, inl, inr}
 use Rattle.std.specs.List.{filter, flat_map, list_any, range_with_len}
-use Rattle.std.proofs.lemmas.Bool.{false≢true, or_cases}
-use Rattle.cell_space.specs.Cells.{Position, InBox, CellData, cell_at, contains, corner, child, digit, below, before, same_cell}
+use Rattle.std.proofs.lemmas.Bool.{false≢true}
+use Rattle.cell_space.specs.Cells.{Position, InBox, CellData, cell_at, contains, corner, child, digit, below, before}
 use Rattle.cell_space.proofs.Cells.{contains-exact, cell_at-contains, digit_below, digit_contains}
 use Rattle.cell_space.proofs.Nested.{share_above, corner_contained, nested}
 use Rattle.nbody_model.specs.Bodies.{BodyData}
 use Rattle.nbody_model.specs.Nodes.{positions_of, is_node, is_leaf}
 use Rattle.nbody_model.specs.Force.{cells_around}
-use Rattle.model_laws.proofs.Among.{Among, Witness, any-witness, any-among, among-kept, among-filter, among-map, each-among}
+use Rattle.model_laws.proofs.Among.{Among, Witness, any-witness, any-among, among-kept, among-filter, among-map}
 use Rattle.model_laws.proofs.Cancel.{BodyAt, body_at}
 use Rattle.rank_laws.specs.Homes.{Keys, home, in_span}
-use Rattle.rank_laws.specs.Machine.{is_one}
-use Rattle.rank_laws.specs.Whole.{Whole, IsWhole, AreKeys, own, in_order}
+use Rattle.rank_laws.specs.Whole.{Whole, AreKeys, own, in_order}
 use Rattle.rank_laws.specs.Contents.{inside_leaf, own_nodes}
 use Rattle.rank_laws.proofs.Homes.{Within, home_in_span}
 use Rattle.rank_laws.proofs.Machine.{one_among, among_one}

@@ -1,6 +1,6 @@
 -- What all ranks give for a cell, together, and what a walk reads of it.
 use Rattle.std.proofs.Common.{◌≡◌, ℕ, zero, suc, ◌+◌, ◌<◌, ◌≤◌, Bool, true, false, cond, ◌||◌, eqb, ltb, List, [], ◌∷◌, ◌++◌, map, sum_by, refl, ap, sym, subst, ◌∙◌, arith, ◌⊎◌, inl, inr, Option, Some, None}
-use Rattle.std.specs.List.{filter, flat_map, list_any, range_with_len, AllByRecursion}
+use Rattle.std.specs.List.{filter, flat_map, list_any, range_with_len}
 use Rattle.std.specs.List.Sorted.{IsPermutation}
 use Rattle.std.proofs.lemmas.List.Sorted.{IsPermutation-refl, IsPermutation-trans, IsPermutation-cons, IsPermutation-middle, IsPermutation-append, IsPermutation-sym, sum_by-IsPermutation}
 use Rattle.std.proofs.lemmas.Bool.{false≢true, eqb-true, eq-eqb, ne_eqb, lt-ltb, ltb-true, cases_eq}
@@ -12,20 +12,17 @@ use Rattle.cell_space.proofs.Cells.{both_equal, child_within}
 use Rattle.nbody_model.specs.Bodies.{BodyData}
 use Rattle.nbody_model.specs.Nodes.{positions_of, members, is_node}
 use Rattle.nbody_model.specs.Moments.{moments}
-use Rattle.nbody_model.specs.Walks.{kids}
 use Rattle.model_laws.proofs.Among.{Among, Witness, any-witness, any-among, any-append, among-kept, among-filter}
 use Rattle.node_moments.specs.Sums.{raw_of}
 use Rattle.node_moments.specs.Joined.{joined}
-use Rattle.node_moments.specs.Computed.{moments_by}
 use Rattle.node_moments.specs.Conditions.{IsSumOf}
 use Rattle.node_moments.proofs.Joined.{joined_raw}
 use Rattle.node_moments.proofs.Nodes.{moments_are}
 use Rattle.node_moments.proofs.Order.{sums_free}
-use Rattle.rank_laws.specs.Homes.{home}
-use Rattle.rank_laws.specs.Whole.{Whole, IsWhole, opening, own, ranks, ranks_of}
-use Rattle.rank_laws.specs.Contents.{EntryData, filled, entry_of, table_sent, reply_sent}
+use Rattle.rank_laws.specs.Whole.{Whole, IsWhole, own, ranks, ranks_of}
+use Rattle.rank_laws.specs.Contents.{EntryData, filled, entry_of}
 use Rattle.rank_laws.proofs.ByIds.{filter_on}
-use Rattle.rank_entry_laws.specs.Given.{HasSoftenings, in_either, together, given, given_by, HomesKnowCells, IsRead, EntriesAreRead}
+use Rattle.rank_entry_laws.specs.Given.{HasSoftenings, in_either, together, given_by, HomesKnowCells, EntriesAreRead}
 use Rattle.rank_entry_laws.proofs.Given.{gives_own, under_eight}
 
 -- ---- what is said of two lists of bodies, together, is what is said of both

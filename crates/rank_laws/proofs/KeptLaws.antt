@@ -20,12 +20,12 @@ use Rattle.rank_laws.specs.Machine.{Kind, code_of, Sums, Members, Parts, Message
 use Rattle.rank_laws.specs.Whole.{ranks, Whole, IsWhole, rules_of, ranks_of}
 use Rattle.rank_laws.specs.Contents.{sum_at, sums_sent, total_at, wanted, member_of, members_in, members_sent, collected, given_to, parts_sent, gathered, touched}
 use Rattle.rank_laws.specs.Runs.{Runs, unsent, received}
-use Rattle.rank_laws.specs.Kept.{senders, added_up, listed_up, given_up, AddsTotals, HasMembers, HasForces, HasCells}
+use Rattle.rank_laws.specs.Kept.{senders, added_up, listed_up, given_up, AddsTotals, HasMembers, HasForces, HasCells, FinishedHaveAll}
 use Rattle.rank_laws.proofs.Protocol.{IsKept, run_kept}
 use Rattle.rank_laws.proofs.Machine.{IsSteady, IsGood, left}
 use Rattle.rank_laws.proofs.Taken.{first}
 use Rattle.rank_laws.proofs.Run.{lawful, start_kept}
-use Rattle.rank_laws.proofs.Stuck.{all_parts}
+use Rattle.rank_laws.proofs.Stuck.{all_sums, all_members, all_parts}
 use Rattle.rank_laws.proofs.Numbered.{no_action, no_delivery}
 use Rattle.rank_laws.proofs.Fairness.{rules_fair, in_order-same}
 use Rattle.rank_laws.proofs.Axes.{Axis, OnX, OnY, OnZ, on, on_sum, on_each}
@@ -38,6 +38,16 @@ on_plus : (a : Axis) (u v : V3) → on a (plus u v) ≡ on a u +ℤ on a v
 on_plus OnX u v = refl
 on_plus OnY u v = refl
 on_plus OnZ u v = refl
+
+pub finished_have : FinishedHaveAll
+finished_have rules fair es w run e r lt =
+    let k : IsKept (machine rules) (unsent rules) (received rules) (left rules) (IsSteady rules) (IsGood rules) (first rules fair) w =
+    (run_kept (machine rules) (unsent rules) (received rules) (left rules) (IsSteady rules) (IsGood rules) (first rules fair) (lawful rules fair) (start_world rules) w es (start_kept rules fair) run).0 in
+    record {
+      sums = all_sums rules fair w k (no_action (machine rules) w e) (no_delivery (machine rules) w e) r lt;
+      members = all_members rules fair w k (no_action (machine rules) w e) (no_delivery (machine rules) w e) r lt;
+      parts = all_parts rules fair w k (no_action (machine rules) w e) (no_delivery (machine rules) w e) r lt;
+    }
 
 module _ (w : Whole) (whole : IsWhole w) (es : List Move) (z : World Rank Message) (run : Runs (rules_of w) es z) where
   abbrev at : ℕ → Rank
@@ -96,16 +106,10 @@ module _ (w : Whole) (whole : IsWhole w) (es : List Move) (z : World Rank Messag
         sum_by-flat_map (λ x. cond (same_member x m) 1 0) (λ q. members_in c (members_sent w q r)) (senders Members (at r)),
       ))
 
-  has_parts : enabled (machine (rules_of w)) z ≡ 0 → (r : ℕ) → r < ranks_of w → has_all (rules_of w) Parts r (at r) ≡ true
-  has_parts e r lt =
-      let k : IsKept (machine (rules_of w)) (unsent (rules_of w)) (received (rules_of w)) (left (rules_of w)) (IsSteady (rules_of w)) (IsGood (rules_of w)) (first (rules_of w) (rules_fair w whole)) z =
-      (run_kept (machine (rules_of w)) (unsent (rules_of w)) (received (rules_of w)) (left (rules_of w)) (IsSteady (rules_of w)) (IsGood (rules_of w)) (first (rules_of w) (rules_fair w whole)) (lawful (rules_of w) (rules_fair w whole)) (start_world (rules_of w)) z es (start_kept (rules_of w) (rules_fair w whole)) run).0 in
-      all_parts (rules_of w) (rules_fair w whole) z k (no_action (machine (rules_of w)) z e) (no_delivery (machine (rules_of w)) z e) r lt
-
   gathers : enabled (machine (rules_of w)) z ≡ 0 → (b : BodyData) → Among b w.bodies → given_up w (w.owner b.id) (at (w.owner b.id)) b ≡ force_at w.gravity w.bodies b
   unfolding gathered
   gathers e b i =
-      sum_got (w.owner b.id) (whole.owned b.id) Parts (omega arith) (has_parts e (w.owner b.id) (whole.owned b.id)) (λ h. given_to b.id (parts_sent w h (w.owner b.id)))
+      sum_got (w.owner b.id) (whole.owned b.id) Parts (omega arith) (finished_have (rules_of w) (rules_fair w whole) es z run e (w.owner b.id) (whole.owned b.id)).parts (λ h. given_to b.id (parts_sent w h (w.owner b.id)))
       ∙ gathered_is w whole b i
 
   all_forces : enabled (machine (rules_of w)) z ≡ 0 → map (λ b. given_up w (w.owner b.id) (at (w.owner b.id)) b) w.bodies ≡ forces w.gravity w.bodies

@@ -355,7 +355,7 @@ module _ (rules : Rules) (fair : IsFair rules) (w : World Rank Message)
         let o : (q < rules.ranks) × (eqb q r ≡ false) = others_in q r a in
         in_got (message k q r) (plain q) (has_come (message k q r) lt (some q o.0 o.1) (λ p l. none q p l) (nothing (W (mark (message k q r))))))
 
-    all_sums : (r : ℕ) → r < rules.ranks → has_all rules Sums r (at r) ≡ true
+    pub all_sums : (r : ℕ) → r < rules.ranks → has_all rules Sums r (at r) ≡ true
     all_sums r lt = come_all Sums Sums r lt (λ q c. refl)
         (λ q l e. first_some (message Sums q r) Sums q r l (other_way q r lt e) (omega (arith, itself (message Sums q r))) (omega (arith, unsent_sum rules fair q blank (W (mark (message Sums q r))))))
         (λ q p l. omega (
@@ -371,7 +371,7 @@ module _ (rules : Rules) (fair : IsFair rules) (w : World Rank Message)
     all_added : (r : ℕ) → r < rules.ranks → (at r).added ≡ true
     all_added r lt = not_false (at r).added (and_false (through rules (at r) && has_all rules Sums r (at r)) (not (at r).added) (none_of r lt).2 (and_from (through rules (at r)) (has_all rules Sums r (at r)) (all_through r lt) (all_sums r lt)))
 
-    all_members : (r : ℕ) → r < rules.ranks → has_all rules Members r (at r) ≡ true
+    pub all_members : (r : ℕ) → r < rules.ranks → has_all rules Members r (at r) ≡ true
     all_members r lt = come_all Members Want r lt (λ q c. refl)
         (λ q l e. first_some (message Members q r) Want r q lt (among-filter (λ x. not (eqb x r)) q (range_with_len 0 rules.ranks) (among_range 0 rules.ranks q (omega arith) (omega (arith, l))) (ap not e)) (omega (arith, itself (message Members q r))) (omega (arith, unsent_sum rules fair r blank (W (mark (message Members q r))))))
         (λ q p l. omega (

@@ -26,6 +26,15 @@ abbrev pub KeepsEachOnce : Type 0
 KeepsEachOnce = (rules : Rules) → IsFair rules → (events : List Move) (w : World Rank Message) → Runs rules events w →
     (r : ℕ) → r < rules.ranks → (k : Kind) → code_of k < 5 → has_all rules k r (state (machine rules) w r) ≡ true → IsPermutation (others rules r) (senders k (state (machine rules) w r))
 
+-- in a finished machine each rank has the sums, the members and the parts of all others
+pub record HasAllOf (rules : Rules) (r : ℕ) (s : Rank) : Type 0 where
+  pub sums : has_all rules Sums r s ≡ true
+  pub members : has_all rules Members r s ≡ true
+  pub parts : has_all rules Parts r s ≡ true
+
+abbrev pub FinishedHaveAll : Type 0
+FinishedHaveAll = (rules : Rules) → IsFair rules → (events : List Move) (w : World Rank Message) → Runs rules events w → enabled (machine rules) w ≡ 0 → (r : ℕ) → r < rules.ranks → HasAllOf rules r (state (machine rules) w r)
+
 -- what rank r adds up at a cell: what it would send to itself, and what it got
 abbrev pub added_up : Whole → ℕ → Rank → CellData → V3
 added_up w r s c = plus (sum_at c (sums_sent w r r)) (sum_of (λ q. sum_at c (sums_sent w q r)) (senders Sums s))

@@ -60,10 +60,19 @@ end_by p w (suc n) m a =
     let next = happens (machine (rules_of w)) m (picked p w m a) in
     if some == 0 then m else end_by p w n next (p.after a some)
 
--- where no event is enabled at that end, every play from there has these events, and leads there
+-- a play with these events to this end
+pub record PlaysTo (p : Picks) (w : Whole) (m : World Rank Message) (a : List ℕ) (es : List Event) (z : World Rank Message) : Type 0 where
+  pub left : List ℕ
+  pub played : IsPlayed p w m a es z left
+
+-- there is a play with these events to this end, and no other
+pub record IsThePlay (p : Picks) (w : Whole) (m : World Rank Message) (a : List ℕ) (es : List Event) (z : World Rank Message) : Type 0 where
+  pub there : IsInRange p → PlaysTo p w m a es z
+  pub only : (fs : List Event) (y : World Rank Message) (b : List ℕ) → IsPlayed p w m a fs y b → (fs ≡ es) × (y ≡ z)
+
+-- where no event is enabled at that end, this is the play
 abbrev pub PlaysAreComputed : Type 0
-PlaysAreComputed = (p : Picks) (w : Whole) (n : ℕ) (m : World Rank Message) (a : List ℕ) → enabled (machine (rules_of w)) (end_by p w n m a) ≡ 0 →
-    (es : List Event) (z : World Rank Message) (b : List ℕ) → IsPlayed p w m a es z b → (es ≡ events_by p w n m a) × (z ≡ end_by p w n m a)
+PlaysAreComputed = (p : Picks) (w : Whole) (n : ℕ) (m : World Rank Message) (a : List ℕ) → enabled (machine (rules_of w)) (end_by p w n m a) ≡ 0 → IsThePlay p w m a (events_by p w n m a) (end_by p w n m a)
 
 -- what the owners of the bodies have for them, and how many pairs the ranks have counted
 abbrev pub found : Whole → World Rank Message → List V3

@@ -1,6 +1,6 @@
 // What ranks find together, whatever the owners of the bodies, the bounds and the order of events are.
 ghost use Rattle.rank_laws.specs.Forces.{ForcesAreGathered, HomesHaveTotals, MembersAreCollected, OrdersCells, RanksCountAsMany, RanksCountInteractions, RulesAreFair, WalksReachTheirOwn};
-ghost use Rattle.rank_laws.specs.Kept.{AddsTotals, HasCells, HasCounts, HasForces, HasMembers, KeepsEachOnce, PartsAreById};
+ghost use Rattle.rank_laws.specs.Kept.{AddsTotals, FinishedHaveAll, HasCells, HasCounts, HasForces, HasMembers, KeepsEachOnce, PartsAreById};
 ghost use Rattle.rank_laws.specs.Owners.{OwnersByIds};
 
 /// Owners that are told as a list are owners by ids.
@@ -50,10 +50,12 @@ pub fn forces_are_gathered()
     ensures { ForcesAreGathered }
 {}
 
-/// In every run: a rank that has a kind of all others has it of each once. So it adds up the totals of its cells and has their
-/// members; in a finished machine the owners have the forces, and the ranks have counted as many pairs as there are interactions.
+/// In every run a rank that has a kind of all others has it of each once; in a finished machine each has all. So it adds up the
+/// totals of its cells and has their members; in a finished machine the owners have the forces, and the ranks have counted as
+/// many pairs as there are interactions.
 pub fn ranks_keep_each_once()
     ensures once { KeepsEachOnce }
+    ensures finished { FinishedHaveAll }
     ensures cells { HasCells }
     ensures totals { AddsTotals }
     ensures members { HasMembers }

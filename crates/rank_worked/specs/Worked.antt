@@ -1,7 +1,7 @@
 -- A worked case: three bodies on two ranks.
-use Rattle.std.specs.Prelude.{◌≡◌, ℕ, ◌+◌, ◌-◌, ◌*◌, ◌^◌, ◌==◌, List, [], ◌∷◌, length, if◌then◌else◌}
-use Rattle.std.proofs.Common.{zero, suc}
-use Rattle.cell_space.specs.Cells.{Position, CellData, corner, digit}
+use Rattle.std.specs.Prelude.{◌≡◌, ℕ, List, [], ◌∷◌, length}
+use Rattle.cell_space.specs.Cells.{CellData}
+use Rattle.nbody_model.specs.Bodies.{BodyData}
 use Rattle.nbody_model.specs.declared.field.Event.{Event}
 use Rattle.nbody_model.specs.declared.field.EventKind.{EventKind}
 use Rattle.nbody_model.specs.declared.field.EventKind.TheVariants.{Build, Walk, Add, Share, Table, Ask, Reply, Sums, Want, Members, Parts}
@@ -12,29 +12,23 @@ use Rattle.rank_laws.specs.Protocol.{World}
 use Rattle.rank_laws.specs.Machine.{Message, Rank, need, start_world}
 use Rattle.rank_laws.specs.Whole.{Whole, AreKeys, rules_of}
 use Rattle.rank_laws.specs.Contents.{own_nodes}
-use Rattle.rank_laws.specs.Played.{Picks, IsPlayed}
+use Rattle.rank_laws.specs.Played.{Picks, IsPlayed, PlaysTo}
+use Rattle.rank_curve_laws.specs.Along.{bounds_of, divided}
 
 -- ---- the case
 
--- a position's child numbers from the root down, as the digits of one number: keys that nest, as those along a curve do
-unfoldable pub key_from : ℕ → ℕ → Position → ℕ → ℕ
-key_from zero l p k = k
-key_from (suc n) l p k = let next = k * 8 + digit p l in key_from n (l + 1) p next
+-- the bodies with the ids 1 and 2 are on rank 0, that with id 3 on rank 1; the bounds are the least keys of their bodies
+abbrev pub three : List BodyData
+three = three_bodies 1610612736
 
-abbrev pub first_key : CellData → ℕ
-first_key c = key_from 32 0 (corner c) 0
+abbrev pub owners : List ℕ
+owners = 0 ∷ 0 ∷ 1 ∷ []
 
-abbrev pub keys_of : ℕ → Keys CellData
-keys_of bound = record { first = first_key; last = λ c. first_key c + 8 ^ (32 - c.level) - 1; bounds = 0 ∷ bound ∷ [] }
+abbrev pub bounds : List ℕ
+bounds = 0 ∷ 9774414712467689420027546932 ∷ []
 
--- the bodies with the ids 1 and 2 are on rank 0, that with id 3 on rank 1, whose bound is its key
 unfoldable pub two_ranks : Whole
-two_ranks = record {
-  bodies = three_bodies 1610612736;
-  owner = λ id. if id == 3 then 1 else 0;
-  keys = keys_of (key_from 32 0 (record { x = 268435456; y = 1610612736; z = 0 }) 0);
-  gravity = gravity_of 256 4294967296;
-}
+two_ranks = divided three (gravity_of 256 4294967296) owners bounds
 
 -- by a list of numbers, and by the last of all
 abbrev pub by_list : Picks
@@ -43,9 +37,11 @@ by_list = record { answer = first_of_list; after = rest_of_list }
 abbrev pub by_last : Picks
 by_last = record { answer = last_of; after = λ a n. a }
 
--- every play from the start, by the empty list of numbers, has these events
-abbrev pub IsTrace : Picks → List Event → Type 0
-IsTrace p trace = (es : List Event) (z : World Rank Message) (b : List ℕ) → IsPlayed p two_ranks (start_world (rules_of two_ranks)) [] es z b → es ≡ trace
+-- the play from the start has these events, and there is no other
+pub record IsTrace (p : Picks) (trace : List Event) : Type 0 where
+  pub last : World Rank Message
+  pub there : PlaysTo p two_ranks (start_world (rules_of two_ranks)) [] trace last
+  pub only : (es : List Event) (z : World Rank Message) (b : List ℕ) → IsPlayed p two_ranks (start_world (rules_of two_ranks)) [] es z b → es ≡ trace
 
 -- a rank acts, with this size; a message comes from one rank to another
 abbrev pub acts : EventKind → ℕ → ℕ → Event
@@ -55,6 +51,9 @@ abbrev pub comes : EventKind → ℕ → ℕ → ℕ → Event
 comes k a b s = record { kind = k; «from» = a; to = b; size = s }
 
 -- ---- what it comes to
+
+abbrev pub BoundsAreTold : Type 0
+BoundsAreTold = bounds_of three owners 2 ≡ bounds
 
 abbrev pub NodesAreCounted : Type 0
 NodesAreCounted = length (own_nodes two_ranks 0) ∷ length (own_nodes two_ranks 1) ∷ [] ≡ 5 ∷ 1 ∷ []

@@ -1,7 +1,12 @@
 //! A worked run of ranks: the check computes the definitions, and refuses an event or a size that is wrong.
 #![tactic(auto)]
 
-ghost use Rattle.rank_worked.specs.Worked.{CellsAreNeeded, FirstPlay, LastPlay, NodesAreCounted, OneKeyIsEnough};
+ghost use Rattle.rank_worked.specs.Worked.{BoundsAreTold, CellsAreNeeded, FirstPlay, LastPlay, NodesAreCounted, OneKeyIsEnough};
+
+/// The bounds of the two ranks are the least keys of their bodies along the curve.
+pub fn bounds_are_told()
+    ensures { BoundsAreTold }
+{}
 
 /// The trees of two ranks over three bodies have 5 nodes and 1.
 pub fn nodes_are_counted()
