@@ -34,7 +34,8 @@ def to_integer(source, box, gravity, shift=None, time_max=0.0, offset=(0.0, 0.0,
             break
     if largest > MOST_MOMENTUM:
         worst = int(numpy.argmax(numpy.abs(speeds).max(1)))
-        raise Fault(source.name, "id %d" % source.id[worst], "its momentum is 2^%.1f, beyond 2^62; give a smaller --velocity-shift" % math.log2(largest))
+        raise Fault(source.name, "id %d" % source.id[worst], "its momentum is 2^%.1f, beyond 2^62, %s" % (
+            math.log2(largest), "give a smaller --velocity-shift" if shift else "even with a velocity shift of 0"))
     whole = numpy.round((source.pos - numpy.array(offset)) / units.length)
     bodies = Bodies(source.id.astype("u8"), source.kind.astype("u1"), mass.astype("u4"),
                     numpy.mod(whole, BOX).astype("u8").astype("u4"), numpy.round(speeds).astype("i8"))
