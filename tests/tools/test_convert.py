@@ -18,7 +18,7 @@ def some_bodies(count=400, seed=5):
 
 
 def write_float(path, source, form):
-    source.box, source.time = BOX, 0.25
+    source.box, source.time, source.hubble = BOX, 0.25, 0.7
     path.write_bytes(float_files.float_bytes(source, form))
 
 
@@ -36,7 +36,7 @@ def test_there_and_back(form, made, program, tmp_path):
     assert 2**32 - 400 <= bodies.total_mass() <= 2**32
     made(tmp_path, "convert", "to-float", "ics", "param.units.json", "back", "--format", form)
     one, back = gadget_tools.read(tmp_path / "in"), gadget_tools.read(tmp_path / "back")
-    assert back.format == form and back.time == 0.25 and back.box == BOX
+    assert back.format == form and back.time == 0.25 and back.box == BOX and back.hubble == 0.7
     order = lambda s: numpy.argsort(s.id)
     a, b = order(one), order(back)
     assert (one.id[a] == back.id[b]).all() and (one.kind[a] == back.kind[b]).all()
