@@ -18,7 +18,7 @@ def some_bodies(count=400, seed=5):
 
 
 def write_float(path, source, form):
-    source.box, source.time = BOX, 0.25
+    source.box, source.time, source.hubble = BOX, 0.25, 0.7
     path.write_bytes(float_files.float_bytes(source, form))
 
 
@@ -36,7 +36,7 @@ def test_there_and_back(form, made, program, tmp_path):
     assert 2**32 - 400 <= bodies.total_mass() <= 2**32
     made(tmp_path, "convert", "to-float", "ics", "param.units.json", "back", "--format", form)
     one, back = gadget_tools.read(tmp_path / "in"), gadget_tools.read(tmp_path / "back")
-    assert back.format == form and back.time == 0.25 and back.box == BOX
+    assert back.format == form and back.time == 0.25 and back.box == BOX and back.hubble == 0.7
     order = lambda s: numpy.argsort(s.id)
     a, b = order(one), order(back)
     assert (one.id[a] == back.id[b]).all() and (one.kind[a] == back.kind[b]).all()
@@ -89,6 +89,24 @@ def test_the_units_obey_newton():
     assert scale.velocities(bodies.mom, bodies.mass)[1] == pytest.approx([1, 2, 3], abs=1e-6)
 
 
+def test_the_velocity_shift_leaves_room():
+    slow = convert.to_integer(some_bodies(), BOX, G)[1]
+    assert slow.velocity_shift == 20 and slow.gravity_internal == 2**32
+    source = some_bodies()
+    source.vel *= 256                                   # faster than any escape, so that momenta need a smaller shift
+    bodies, fast, _ = convert.to_integer(source, BOX, G)
+    assert 0 < fast.velocity_shift < 20 and 2**57 < numpy.abs(bodies.mom).max() <= 2**59
+    long = convert.to_integer(some_bodies(), BOX, G, time_max=slow.tick * 2.0**36)[1]
+    assert long.velocity_shift == 12 and long.tick == pytest.approx(16 * slow.tick)
+
+
+def test_positions_wrap():
+    source = float_files.arrays_snapshot("wrapped", [[BOX, 0, 50], [-1e-13, 1.25 * BOX, 25]], numpy.zeros((2, 3)), 1.0)
+    bodies, _, report = convert.to_integer(source, BOX, G)
+    assert bodies.pos.tolist() == [[0, 0, 2**31], [0, 2**30, 2**30]]
+    assert "2 bodies were outside the box and stand where it wraps" in report
+
+
 def test_masses():
     whole, unit = units.whole_masses("x", numpy.full(1000, 0.1))
     assert (whole == 2**32 // 1000).all() and unit * whole.sum() == pytest.approx(100)
@@ -116,7 +134,9 @@ def test_what_is_refused():
     assert refusal(source)[0] == "body 7"
     source = some_bodies(20)
     source.vel[2] = 1e12
-    assert refusal(source, shift=40)[0] == "id %d" % source.id[2]
+    assert refusal(source, shift=40)[0] == "id %d" % source.id[2] and "give a smaller" in refusal(source, shift=40)[1]
+    source.vel[2] = 1e13
+    assert "even with a velocity shift of 0" in refusal(source)[1]
     assert "the box is 0" in refusal(some_bodies(20), box=0.0)[1]
 
 
@@ -165,6 +185,12 @@ def test_a_comoving_snapshot(made, tools, program, tmp_path):
     assert program(tmp_path, "check", "param2").out.startswith("ok bodies 127 ")
     one, two = (integer_files.read_snapshot(tmp_path / name).bodies for name in ("first", "second"))
     assert (one.mass == two.mass).all()
+    parameters, scales = gadget_tools.read(tmp_path / "param1"), json.loads((tmp_path / "exp.scales.json").read_text())
+    flow = source.vel * 0.2**1.5                        # a^2 dx/dt in boxes and 1/H0, of GADGET's sqrt(a) dx/dt
+    want = flow * 2.0**32 * one.mass[:, None] * 2.0**parameters["VelocityShift"] * scales["tau_drift"]
+    assert numpy.abs(one.mom - want).max() <= numpy.abs(want).max() * 2**-22
+    want = 3 * 0.3 / (8 * numpy.pi) * 2.0**(96 + parameters["VelocityShift"]) / one.total_mass() * scales["tau_kick"] * scales["tau_drift"]
+    assert 2**31 < parameters["GravityConstantInternal"] == round(want) <= 2**32
     assert numpy.abs(one.pos.astype("i8") - two.pos.astype("i8")).max() <= 2**8          # f32 between them
     assert numpy.abs(one.mom - two.mom).max() <= numpy.abs(one.mom).max() * 2**-23
     answer = tools(tmp_path, *words, "--gravity", 2 * gravity, "--force")

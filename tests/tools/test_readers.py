@@ -125,6 +125,21 @@ def test_altered_snapshots(at, byte, text, sphere, program, tmp_path):
     assert str(tmp_path / "bad") in str(fault.value) and "byte" in str(fault.value)
 
 
+@pytest.mark.parametrize("at, value", [(0, 1), (8, 3), (12, 9), (16, 1), (24, 7), (80, 99), (88, 0), (97, 255), (133, 1), (161, 0), (168, 200), (228, 0), (7972, 1)])
+def test_altered_restart_files_are_refused_where_the_program_refuses(at, value, sphere, program, tmp_path):
+    for name in ("param.txt", "param.txt.times"):
+        shutil.copy(sphere[0] / name, tmp_path)
+    data = bytearray((sphere[0] / "restart_000").read_bytes())
+    data[at] = value
+    (tmp_path / "r").write_bytes(data)
+    answer = program(tmp_path, "resume", "param.txt", "r", "1")
+    with pytest.raises(gadget_tools.Fault) as fault:
+        gadget_tools.read(tmp_path / "r", "restart")
+    assert answer.status == 14
+    if answer.out.startswith("restart field at "):
+        assert fault.value.place == "byte " + answer.out.split()[-1]
+
+
 def test_cut_restart_and_bin_files(sphere, tmp_path):
     folder, _ = sphere
     for name, lengths in (("restart_000", (4, 100, 200, 7975)), ("bins.dat", (4, 11))):

@@ -34,7 +34,9 @@ def to_integer(source, box, gravity, shift=None, time_max=0.0, offset=(0.0, 0.0,
             break
     if largest > MOST_MOMENTUM:
         worst = int(numpy.argmax(numpy.abs(speeds).max(1)))
-        raise Fault(source.name, "id %d" % source.id[worst], "its momentum is 2^%.1f, beyond 2^62; give a smaller --velocity-shift" % math.log2(largest))
+        raise Fault(source.name, "id %d" % source.id[worst], "its momentum is 2^%.1f, beyond 2^62, %s" % (
+            math.log2(largest), "give a smaller --velocity-shift" if shift else "even with a velocity shift of 0"))
+    units.hubble_parameter = source.hubble
     whole = numpy.round((source.pos - numpy.array(offset)) / units.length)
     bodies = Bodies(source.id.astype("u8"), source.kind.astype("u1"), mass.astype("u4"),
                     numpy.mod(whole, BOX).astype("u8").astype("u4"), numpy.round(speeds).astype("i8"))
@@ -70,7 +72,7 @@ def units_for(box, unit, gravity, shift, offset, time, expansion, hubble, total)
         raise Fault("--velocity-shift", "", "%d isn't 0 to %d" % (shift, MOST_SHIFT))
     offset = tuple(float(x) for x in offset)
     if expansion:
-        return Units(box, unit, gravity, round(expansion.gravity_internal(total, shift)), shift, 0.0, offset, time, hubble, expansion)
+        return Units(box, unit, gravity, round(expansion.gravity_internal(total, shift)), shift, 0.0, offset, time, hubble, expansion=expansion)
     return Units(box, unit, gravity, MOST_GRAVITY, shift, tick_for(box, unit, gravity, MOST_GRAVITY, shift), offset, time)
 
 
@@ -133,4 +135,4 @@ def to_float(snapshot, units):
     time, flow = units.time_at(tick), units.expansion
     return FloatSnapshot(snapshot.name, 2, bodies.id, bodies.kind, bodies.mass * units.mass, units.positions(bodies.pos),
                          units.velocities(bodies.mom, bodies.mass, tick), time, 1 / time - 1 if flow else 0.0, units.box,
-                         flow.omega_m if flow else 0.0, flow.omega_lambda if flow else 0.0, 1.0)
+                         flow.omega_m if flow else 0.0, flow.omega_lambda if flow else 0.0, units.hubble_parameter)

@@ -9,6 +9,7 @@ from dataclasses import dataclass, field
 import numpy
 
 from .faults import Fault, read_bytes
+from .text_files import RANGES
 
 SNAPSHOT_TAG, RESTART_TAG, RESTART_END = b"I4SNAP01", b"I4RESTRT", b"I4RESEND"
 EWALD_TAG, EXPANSION_TAG, GROUPS_TAG = b"I4EWALD1", b"I4EXPAN1", b"I4GROUPS"
@@ -16,7 +17,7 @@ BINS_TAG, BINS_END = b"I4BINS01", b"I4BINEND"
 MOST_BODIES, MOST_MASS, MOST_MOMENTUM = 1 << 20, 1 << 32, 1 << 62
 KNOWN_BLOCKS = ("HEAD", "POS ", "MOM ", "ID  ", "MASS")
 SETTINGS = ("TimeMax", "LowBin", "TopBin", "ErrTolTheta", "ErrTolIntAccuracy", "GravityConstantInternal",
-            "VelocityShift") + tuple("SofteningType%d" % kind for kind in range(1, 6))
+            "VelocityShift") + tuple("SofteningType%d" % kind for kind in range(1, 6))      # as they stand in a restart file
 
 
 @dataclass
@@ -223,16 +224,31 @@ def read_restart(path):
     row = [("id", "<u8"), ("kind", "<u4"), ("mass", "<u4"), ("pos", "<u4", 3), ("mom", "<i8", 3)]
     rows = numpy.frombuffer(data, row + ([("depth", "<u4")] if version == 2 else []), n, 168)
     bodies = Bodies(*(rows[key].copy() for key in ("id", "kind", "mass", "pos", "mom")))
-    falls = numpy.append(False, bodies.id[1:] <= bodies.id[:-1])
-    odd = (bodies.kind < 1) | (bodies.kind > 5)
-    for bad, place, cause in ((falls, 0, "ids don't ascend"), (odd, 8, "a type isn't 1 to 5")):
-        if bad.any():
-            raise Fault(name, "byte %d" % (168 + size * int(numpy.argmax(bad)) + place), cause)
+    settings = dict(zip(SETTINGS, struct.unpack_from("<12Q", data, 72)))
+    depth = rows["depth"].copy() if version == 2 else None
+    check_state(name, version, steps, tick, settings, bodies, depth)
     check_bodies(name, bodies)
     interactions = int.from_bytes(data[56:72], "little")
-    settings = dict(zip(SETTINGS, struct.unpack_from("<12Q", data, 72)))
-    return Restart(name, version, steps, tick, snapshot, restart, kicks, interactions, settings, bodies,
-                   rows["depth"].copy() if version == 2 else None)
+    return Restart(name, version, steps, tick, snapshot, restart, kicks, interactions, settings, bodies, depth)
+
+
+def check_state(name, version, steps, tick, settings, bodies, depth):
+    """The first number of a restart file that can't be, by its place."""
+    low, top, last = settings["LowBin"], min(settings["TopBin"], 20), settings["TimeMax"]
+    zeros = (tick & -tick).bit_length() - 1 if tick else 64
+    rests = version == 2 and steps == tick >> top and low <= zeros < top
+    if not (rests if version == 2 else tick == steps << top) or steps << top >= last:
+        raise Fault(name, "byte 24", "tick %d can't be after %d base steps of 2^%d ticks until %d" % (tick, steps, top, last))
+    for place, key in enumerate(SETTINGS):
+        least, most = RANGES[key]
+        if not max(least, low if key == "TopBin" else 0) <= settings[key] <= most:
+            raise Fault(name, "byte %d" % (72 + 8 * place), "%s is %d" % (key, settings[key]))
+    size = 52 if version == 1 else 56
+    falls, odd = numpy.append(False, bodies.id[1:] <= bodies.id[:-1])[:len(bodies)], (bodies.kind < 1) | (bodies.kind > 5)
+    deep = depth > top - zeros if version == 2 else numpy.zeros(len(bodies), bool)
+    for row in numpy.flatnonzero(falls | odd | deep)[:1]:
+        place, cause = (0, "ids don't ascend") if falls[row] else (8, "a type isn't 1 to 5") if odd[row] else (52, "a depth is too large")
+        raise Fault(name, "byte %d" % (168 + size * row + place), cause)
 
 
 def read_bins(path):

@@ -41,10 +41,7 @@ class Outputs:
                 parts[path] = write_part(path, data)
             for path, part in parts.items():
                 was_there = os.path.lexists(path)
-                if self.force:
-                    os.replace(part, path)
-                else:
-                    os.link(part, path)
+                put_in_place(part, path, self.force)
                 if not was_there:
                     made.append(path)
         except OSError as error:
@@ -55,6 +52,20 @@ class Outputs:
             for part in parts.values():
                 if os.path.exists(part):
                     os.remove(part)
+
+
+def put_in_place(part, path, force):
+    """Gives a whole file its name; without `force` only where the name is still free."""
+    if not force:
+        try:
+            os.link(part, path)
+            return
+        except FileExistsError:
+            raise
+        except OSError:                # a file system without links
+            if os.path.lexists(path):
+                raise
+    os.replace(part, path)
 
 
 def write_part(path, data):

@@ -78,8 +78,8 @@ def kicks_picture(kicks):
 
 def shells_picture(shells, first):
     """Pairs by their distance. `first` is the outer edge of the first shell in length units; each shell doubles it."""
-    if len(shells.counts) < 2 or not any(shells.counts):
-        raise Fault(shells.name, "", "it has no pairs")
+    if not any(shells.counts[:-1]):
+        raise Fault(shells.name, "", "it has no pairs in its shells")
     edges = numpy.array([0.0] + [first * 2.0**k for k in range(len(shells.counts) - 1)]) / 2**32
     volume = 4 * numpy.pi / 3 * numpy.diff(edges**3)
     counts = numpy.array(shells.counts[:-1], "f8")
@@ -87,9 +87,9 @@ def shells_picture(shells, first):
     axes[0].stairs(counts, edges, fill=True)
     axes[0].set(yscale="symlog", ylabel="pairs in the shell", title="%d pairs, %d beyond the shells" % (shells.pairs, shells.counts[-1]))
     middle = edges[1:] * 0.75
-    axes[1].plot(middle, counts / (shells.pairs * volume), "o-")
+    axes[1].plot(middle[counts > 0], (counts / (shells.pairs * volume))[counts > 0], "o-")
     axes[1].axhline(1, color="grey", lw=1)
-    axes[1].set(yscale="symlog", xscale="log", xlabel="distance / box", ylabel="pairs / pairs of an even spread")
+    axes[1].set(yscale="log", xscale="log", xlabel="distance / box", ylabel="pairs / pairs of an even spread")
     return png_of(figure)
 
 
@@ -105,7 +105,8 @@ def groups_picture(catalogue, snapshot, axis=2):
         if (at >= len(ids)).any() or (ids[at] != members).any():
             raise Fault(catalogue.name, "group %d" % catalogue.label[place], "a member isn't in " + snapshot.name)
         axes[0].plot(pos[at, 0], pos[at, 1], ".", ms=2)
-    axes[0].set(xlim=(0, 1), ylim=(0, 1), aspect="equal", xlabel="xyz"[across[0]] + " / box", ylabel="xyz"[across[1]] + " / box", title="%d groups" % len(catalogue.ids))
+    middle, half = (pos.min(0) + pos.max(0)) / 2, 0.55 * numpy.ptp(pos, axis=0).max() + 1e-9
+    axes[0].set(xlim=(middle[0] - half, middle[0] + half), ylim=(middle[1] - half, middle[1] + half), aspect="equal", xlabel="xyz"[across[0]] + " / box", ylabel="xyz"[across[1]] + " / box", title="%d groups" % len(catalogue.ids))
     sizes = [len(members) for members in catalogue.ids]
     axes[1].hist(sizes, bins=numpy.geomspace(1, max(sizes, default=1) + 1, 20))
     axes[1].set(xscale="log", xlabel="members", ylabel="groups")

@@ -52,6 +52,7 @@ class Units:
     offset: tuple = (0.0, 0.0, 0.0)    # what was taken off the positions
     start_time: float = 0.0
     hubble: float = 0.0                # H0; 0 without expansion
+    hubble_parameter: float = 1.0      # the header's h, which is only carried along
     expansion: Expansion = None
 
     @property
