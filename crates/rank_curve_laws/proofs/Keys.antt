@@ -1,15 +1,22 @@
 -- The keys of cells along the curve as keys of ranks.
-use Rattle.std.proofs.Common.{◌≡◌, ℕ, ◌+◌, ◌-◌, ◌*◌, ◌<◌, ◌≤◌, Bool, true, false, eqb, ltb, ◌&&◌, ◌||◌, length, ◌^◌, refl, ap, sym, subst, ◌∙◌, arith, ◌⊎◌, inl, inr, suc}
+use Rattle.std.proofs.Common.{◌≡◌, ℕ, ◌+◌, ◌-◌, ◌*◌, ◌<◌, ◌≤◌, Bool, true, false, cond, eqb, ltb, ◌&&◌, ◌||◌, List, [], ◌∷◌, sum_by, length, ◌^◌, refl, ap, sym, subst, ◌∙◌, arith, ◌⊎◌, inl, inr, suc}
+use Rattle.std.specs.List.{AllByRecursion}
 use Rattle.std.proofs.Math.Nat.{div-mul-le_self, eq_of_mul-eq-mul_right}
 use Rattle.std.proofs.lemmas.Bool.{and_parts, lt-ltb, eq-eqb, false≢true, cases_order}
-use Rattle.cell_space.specs.Cells.{Position, InBox, CellData, child, contains, corner, cell_at, digit, width_of}
+use Rattle.cell_space.specs.Cells.{Position, InBox, CellData, child, contains, corner, cell_at, digit, same_cell, width_of}
 use Rattle.cell_space.proofs.Cells.{contains_child, contains-exact}
+use Rattle.model_laws.proofs.Among.{Among, each-among}
 use Rattle.hilbert_keys.specs.Curve.{along, keys_in, number_of, turn_of, place_of, first_key, last_key, IsCell}
 use Rattle.hilbert_keys.proofs.Curves.{child_number, each_place, one_cell, corner_cell}
 use Rattle.hilbert_keys.proofs.Widths.{some_keys}
+use Rattle.rank_laws.specs.Machine.{is_one}
+use Rattle.rank_laws.specs.Whole.{in_order}
+use Rattle.rank_laws.proofs.Machine.{one_among, among_one}
+use Rattle.rank_laws.proofs.Fairness.{in_order-same, in_order-times}
+use Rattle.rank_laws.proofs.Order.{ascends, one_order}
 use Rattle.rank_laws.proofs.ByIds.{owned_by}
 use Rattle.rank_laws.proofs.Plays.{shows_nothing}
-use Rattle.rank_curve_laws.specs.Along.{divided, CurveHasKeys, CellsAreTold, EveryDivisionIsWhole, NoDivisionShows}
+use Rattle.rank_curve_laws.specs.Along.{keys_along, SetsHaveOneOrder, divided, CurveHasKeys, CellsAreTold, EveryDivisionIsWhole, NoDivisionShows}
 
 -- ---- the keys of a child lie within those of its parent
 
@@ -96,6 +103,19 @@ cells_told c d i j l e =
 
 pub are_told : CellsAreTold
 are_told bounds c d i j e f = let u : (c.level ≡ d.level) × (first_key c ≡ first_key d) = level_in c.level d.level (first_key c) (first_key d) e f in cells_told c d i j u.0 u.1
+
+-- a cell stands in the order as often as in another of the same cells
+as_often : (bounds : List ℕ) (cs ds : List CellData) → ((c : CellData) → is_one c cs ≡ is_one c ds) → (c : CellData) → sum_by (λ d. cond {A = ℕ} (same_cell c d) 1 0) (in_order (keys_along bounds) cs) ≡ sum_by (λ d. cond {A = ℕ} (same_cell c d) 1 0) (in_order (keys_along bounds) ds)
+as_often bounds cs ds e c = omega (arith, in_order-times (keys_along bounds) c cs, in_order-times (keys_along bounds) c ds, ap {B = ℕ} (λ b. cond b 1 0) (e c))
+
+ordered_cell : (bounds : List ℕ) (cs : List CellData) → AllByRecursion IsCell cs → (c : CellData) → Among c (in_order (keys_along bounds) cs) → IsCell c
+ordered_cell bounds cs a c h = each-among IsCell c cs a (one_among c cs (sym (in_order-same (keys_along bounds) c cs) ∙ among_one c (in_order (keys_along bounds) cs) h))
+
+pub one_order_of : SetsHaveOneOrder
+one_order_of bounds cs ds a b e =
+    one_order (keys_along bounds) (in_order (keys_along bounds) cs) (in_order (keys_along bounds) ds) (ascends (keys_along bounds) cs) (ascends (keys_along bounds) ds)
+    (λ c d i j u v. are_told bounds c d (ordered_cell bounds cs a c i) (ordered_cell bounds ds b d j) u v)
+    (as_often bounds cs ds e)
 
 -- ---- divisions
 

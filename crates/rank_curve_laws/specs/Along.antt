@@ -9,8 +9,8 @@ use Rattle.nbody_model.specs.Tables.{Gravity}
 use Rattle.model_laws.specs.Laws.{AreBodies}
 use Rattle.rank_laws.specs.Homes.{Keys}
 use Rattle.rank_laws.specs.Protocol.{World}
-use Rattle.rank_laws.specs.Machine.{Message, Rank, start_world}
-use Rattle.rank_laws.specs.Whole.{Whole, AreKeys, IsWhole, goes_first, rules_of}
+use Rattle.rank_laws.specs.Machine.{Message, Rank, is_one, start_world}
+use Rattle.rank_laws.specs.Whole.{Whole, AreKeys, IsWhole, goes_first, in_order, rules_of}
 use Rattle.rank_laws.specs.Owners.{owner_in, handed_to}
 use Rattle.rank_laws.specs.Played.{Picks, IsPlayed, FindAlike}
 
@@ -38,6 +38,10 @@ CurveHasKeys = (bounds : List ℕ) → 0 < length bounds → AreKeys (keys_along
 -- of two different cells of the box one goes before the other
 abbrev pub CellsAreTold : Type 0
 CellsAreTold = (bounds : List ℕ) (c d : CellData) → IsCell c → IsCell d → goes_first (keys_along bounds) c d ≡ false → goes_first (keys_along bounds) d c ≡ false → c ≡ d
+
+-- so lists of such cells that have the same cells have one order
+abbrev pub SetsHaveOneOrder : Type 0
+SetsHaveOneOrder = (bounds : List ℕ) (cs ds : List CellData) → AllByRecursion IsCell cs → AllByRecursion IsCell ds → ((c : CellData) → is_one c cs ≡ is_one c ds) → in_order (keys_along bounds) cs ≡ in_order (keys_along bounds) ds
 
 abbrev pub EveryDivisionIsWhole : Type 0
 EveryDivisionIsWhole = (bodies : List BodyData) → AreBodies bodies → (g : Gravity) (owners bounds : List ℕ) → IsDivision bodies owners bounds → IsWhole (divided bodies g owners bounds)

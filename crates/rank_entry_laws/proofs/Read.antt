@@ -5,7 +5,8 @@ use Rattle.std.specs.List.Sorted.{IsPermutation}
 use Rattle.std.proofs.lemmas.List.Sorted.{IsPermutation-refl, IsPermutation-trans, IsPermutation-cons, IsPermutation-middle, IsPermutation-append, IsPermutation-sym, sum_by-IsPermutation}
 use Rattle.std.proofs.lemmas.Bool.{false≢true, eqb-true, eq-eqb, ne_eqb, lt-ltb, ltb-true, cases_eq}
 use Rattle.std.proofs.lemmas.List.Sums.{sum_by-cons}
-use Rattle.std.proofs.lemmas.List.{map-append}
+use Rattle.std.proofs.lemmas.List.{map-append, append-nil}
+use Rattle.std.proofs.Math.Bool.{or-false}
 use Rattle.std.proofs.lemmas.List.Elements.{filter-append}
 use Rattle.cell_space.specs.Cells.{Position, CellData, contains, child, below}
 use Rattle.cell_space.proofs.Cells.{both_equal, child_within}
@@ -85,14 +86,6 @@ sets_of P Q c h = by (ltb c.level 32) refl
     by true e = filter_on (λ k. is_node P (child c k)) (λ k. is_node Q (child c k)) (below 8) (λ k l. h k (ltb-true c.level 32 e) (under_eight k 8 l))
     by false e = refl
 
-append_nil : {X : Type 0} (xs : List X) → xs ++ [] ≡ xs
-append_nil [] = refl
-append_nil (x ∷ xs) = ap (λ t. x ∷ t) (append_nil xs)
-
-or_false : (a : Bool) → (a || false) ≡ a
-or_false true = refl
-or_false false = refl
-
 module _ (w : Whole) (A B : List BodyData) (c : CellData) where
   abbrev told : List BodyData → Option EntryData
   told X = cond (is_node (positions_of X) c) (Some (entry_of w X c)) None
@@ -104,8 +97,8 @@ module _ (w : Whole) (A B : List BodyData) (c : CellData) where
 
   left_told : is_node (positions_of B) c ≡ false → entry_of w A c ≡ entry_of w (A ++ B) c
   left_told e =
-      let m : members A c ≡ members (A ++ B) c = sym (append_nil (members A c)) ∙ ap (λ t. members A c ++ t) (sym (members_none B c e)) ∙ sym (members_both A B c) in
-      λ i. record { raw = raw_of w.gravity.setup.soft c (m i); children = sets_of (positions_of A) (positions_of (A ++ B)) c (λ k l h. sym (node_both A B (child c k) ∙ ap (λ b. is_node (positions_of A) (child c k) || b) (child_none B c k l h e) ∙ or_false (is_node (positions_of A) (child c k)))) i }
+      let m : members A c ≡ members (A ++ B) c = sym (append-nil (members A c)) ∙ ap (λ t. members A c ++ t) (sym (members_none B c e)) ∙ sym (members_both A B c) in
+      λ i. record { raw = raw_of w.gravity.setup.soft c (m i); children = sets_of (positions_of A) (positions_of (A ++ B)) c (λ k l h. sym (node_both A B (child c k) ∙ ap (λ b. is_node (positions_of A) (child c k) || b) (child_none B c k l h e) ∙ or-false (is_node (positions_of A) (child c k)))) i }
 
   right_told : is_node (positions_of A) c ≡ false → entry_of w B c ≡ entry_of w (A ++ B) c
   right_told e =

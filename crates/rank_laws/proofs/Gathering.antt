@@ -17,6 +17,7 @@ use Rattle.model_laws.proofs.Sums.{sum_by-same}
 use Rattle.model_laws.proofs.Signed.{total_by, total-same, total-on, total-zero, total-filter, total-mapped, total-exchange}
 use Rattle.model_laws.proofs.Counts.{times, same_total, any-times}
 use Rattle.model_laws.proofs.Turned.{same_pair-exact}
+use Rattle.model_laws.proofs.InOrder.{turned_cells}
 use Rattle.model_laws.proofs.Levels.{nodes, node_once, total_around, times-filter, over_nodes}
 use Rattle.model_laws.proofs.Partners.{Acts, acts}
 use Rattle.model_laws.proofs.Shares.{Ascending, ascending-from}
@@ -140,30 +141,10 @@ wanted_node w whole h c e =
 
 -- ---- a sum over the wanted cells is one over the nodes
 
-mark_turned : (z x : CellData) → cond {A = ℕ} (same_cell x z) 1 0 ≡ cond (same_cell z x) 1 0
-mark_turned z x = by (same_cell x z) (same_cell z x) refl refl
-  where
-    by : (p q : Bool) → same_cell x z ≡ p → same_cell z x ≡ q → cond {A = ℕ} p 1 0 ≡ cond q 1 0
-    by true true e f = refl
-    by false false e f = refl
-    by true false e f = absurd (false≢true (sym f ∙ (same_cell-exact z x).1 (sym ((same_cell-exact x z).0 e))))
-    by false true e f = absurd (false≢true (sym e ∙ (same_cell-exact x z).1 (sym ((same_cell-exact z x).0 f))))
-
--- how often a cell stands in what a test leaves
-left_step : (t : CellData → Bool) (z x : CellData) (b : Bool) → same_cell x z ≡ b → cond {A = ℕ} (t x) (cond b 1 0) 0 ≡ cond (t z) (cond b 1 0) 0
-left_step t z x true e = ap {B = ℕ} (λ u. cond (t u) 1 0) ((same_cell-exact x z).0 e)
-left_step t z x false e = nothing (t x) (t z)
-  where
-    nothing : (p q : Bool) → cond {A = ℕ} p 0 0 ≡ cond q 0 0
-    nothing true true = refl
-    nothing true false = refl
-    nothing false true = refl
-    nothing false false = refl
-
 wanted_nodes : (w : Whole) → IsWhole w → (h : ℕ) (f : CellData → ℤ) → total_by f (wanted w h) ≡ total_by (λ c. cond (is_one c (wanted w h)) (f c) (pos 0)) (nodes (positions_of w.bodies))
 wanted_nodes w whole h f =
     same_total same_cell same_cell-exact f (wanted w h) (filter (λ c. is_one c (wanted w h)) (nodes (positions_of w.bodies))) (λ z.
-    sum_by-same (λ x. cond (same_cell x z) 1 0) (λ x. cond (same_cell z x) 1 0) (mark_turned z) (wanted w h)
+    sum_by-same (λ x. cond (same_cell x z) 1 0) (λ x. cond (same_cell z x) 1 0) (λ x. ap {B = ℕ} (λ b. cond b 1 0) (turned_cells x z)) (wanted w h)
     ∙ times_wanted w h z
     ∙ once z (is_one z (wanted w h)) refl
     ∙ sym (times-filter (λ c. is_one c (wanted w h)) z (nodes (positions_of w.bodies))))

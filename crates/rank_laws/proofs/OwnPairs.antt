@@ -1,6 +1,7 @@
 -- The pairs that a rank's walk reaches are the reached pairs with which it is concerned.
 use Rattle.std.proofs.Common.{◌≡◌, ℕ, zero, suc, ◌<◌, Bool, true, false, cond, eqb, not, List, [], ◌∷◌, ◌++◌, refl, ap, sym, ◌∙◌, arith, inl, inr}
 use Rattle.std.specs.List.{flat_map, filter}
+use Rattle.std.proofs.lemmas.List.{append-nil}
 use Rattle.std.proofs.lemmas.Bool.{false≢true}
 use Rattle.std.proofs.lemmas.List.Elements.{filter-append}
 use Rattle.cell_space.specs.Cells.{before}
@@ -31,10 +32,6 @@ flat_filter {Y = Y} t f (x ∷ xs) = by (t x) (flat_filter t f xs)
 flat_none : {X Y : Type 0} (f : X → List Y) (xs : List X) → ((x : X) → Among x xs → f x ≡ []) → flat_map f xs ≡ []
 flat_none f [] e = refl
 flat_none f (x ∷ xs) e = ap (λ u. u ++ flat_map f xs) (e x (inl refl)) ∙ flat_none f xs (λ y h. e y (inr h))
-
-append_none : {X : Type 0} (xs : List X) → xs ++ [] ≡ xs
-append_none [] = refl
-append_none (x ∷ xs) = ap (λ u. x ∷ u) (append_none xs)
 
 module _ (w : Whole) (whole : IsWhole w) (r : ℕ) where
   abbrev is_mine : Pair → Bool
@@ -83,7 +80,7 @@ module _ (w : Whole) (whole : IsWhole w) (r : ℕ) where
       one y false k rest = sym (none_mine (suc (depth_of y)) y (omega arith) k)
 
   from_start : (b : Bool) → concerned w.keys r root_pair ≡ b → flat_map (all_from depth_of (next_of w r)) (cond b (root_pair ∷ []) []) ≡ filter (concerned w.keys r) (every root_pair)
-  from_start true e = append_none (mine root_pair) ∙ all_mine (suc (depth_of root_pair)) root_pair (omega arith) e
+  from_start true e = append-nil (mine root_pair) ∙ all_mine (suc (depth_of root_pair)) root_pair (omega arith) e
   from_start false e = sym (none_mine (suc (depth_of root_pair)) root_pair (omega arith) e)
 
   pairs : flat_map (all_from depth_of (next_of w r)) (start_of w r) ≡ filter (concerned w.keys r) (reached (opening w))

@@ -182,10 +182,6 @@ has_counts w whole es z run e =
 
 -- ---- what the walks count
 
-length-append : {X : Type 0} (xs ys : List X) → length (xs ++ ys) ≡ length xs + length ys
-length-append [] ys = omega arith
-length-append (x ∷ xs) ys = omega (arith, length-append xs ys)
-
 counted-append : (w : Whole) (r : ℕ) (xs ys : List Pair) → length (counted_in w r (xs ++ ys)) ≡ length (counted_in w r xs) + length (counted_in w r ys)
 counted-append w r xs ys = omega (
   arith,

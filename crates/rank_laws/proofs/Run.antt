@@ -32,9 +32,6 @@ each-self xs = from xs (λ c h. among_one c xs h)
     from (y ∷ ys) h = (h y (inl refl), from ys (λ c k. h c (inr k)))
 
 module _ (rules : Rules) (fair : IsFair rules) where
-  is_plain : Kind → Type 0
-  is_plain k = (k ≡ Ask → ⊥) × (k ≡ Reply → ⊥)
-
   good_all : (k : Kind) (r : ℕ) → r < rules.ranks → (k ≡ Ask → ⊥) → (k ≡ Reply → ⊥) → AllByRecursion (IsGood rules) (to_all rules k r)
   good_all k r lt na nr =
       each-map (λ q. q < rules.ranks) (IsGood rules) (λ q. message k r q) (λ q h. record { to_in = h; from_in = lt; asks = λ e. absurd (na e); replies = λ e. absurd (nr e) }) (others rules r)
@@ -86,9 +83,6 @@ module _ (rules : Rules) (fair : IsFair rules) where
   no_more_by m g Parts = refl
   no_more_by m g Ask = omega arith
   no_more_by m g Reply = refl
-
-  Lawful : Type 0
-  Lawful = IsLawful (machine rules) (unsent rules) (received rules) (left rules) (IsSteady rules) (IsGood rules) (first rules fair)
 
   pub lawful : IsLawful (machine rules) (unsent rules) (received rules) (left rules) (IsSteady rules) (IsGood rules) (first rules fair)
   lawful = record {

@@ -1,5 +1,4 @@
 -- Working off the known elements of a tree, whatever is known.
-use Rattle.std.proofs.lemmas.List.{map-append}
 use Rattle.std.proofs.Common.{◌≡◌, ℕ, zero, suc, ◌+◌, ◌<◌, Bool, true, false, cond, List, [], ◌∷◌, ◌++◌, sum_by, refl, ap, ◌∙◌, arith, inl, inr, map, sym}
 use Rattle.std.specs.List.{flat_map}
 use Rattle.std.proofs.lemmas.List.Sums.{sum_by-append}
@@ -61,28 +60,3 @@ module _ {X : Type 0} (depth : X → ℕ) (next : X → List X) (falls : IsFalli
 
   pub settled : (g : X → ℕ) (x : X) → sum_by g (worked depth next known x) + sum_by (λ y. sum_by g (all_from depth next y)) (waiting depth next known x) ≡ sum_by g (all_from depth next x)
   settled g x = settled_in g (suc (depth x)) x (omega arith)
-
--- a tree of places is the tree of what stands at them
-map-flat : {X Y Z : Type 0} (f : Y → Z) (h : X → List Y) (xs : List X) → map f (flat_map h xs) ≡ flat_map (λ x. map f (h x)) xs
-map-flat f h [] = refl
-map-flat f h (x ∷ xs) = map-append f (h x) (flat_map h xs) ∙ ap (λ t. map f (h x) ++ t) (map-flat f h xs)
-
-flat-map : {X Y Z : Type 0} (g : Y → List Z) (f : X → Y) (xs : List X) → flat_map g (map f xs) ≡ flat_map (λ x. g (f x)) xs
-flat-map g f [] = refl
-flat-map g f (x ∷ xs) = ap (λ t. g (f x) ++ t) (flat-map g f xs)
-
-module _ {I X : Type 0} (f : I → X) (depth : X → ℕ) (next_at : I → List I) (next : X → List X) (here_at : I → List I) (here : X → List X) (nexts : (i : I) → map f (next_at i) ≡ next (f i)) (heres : (i : I) → map f (here_at i) ≡ here (f i)) where
-  tree_places_in : (n : ℕ) (i : I) → map f (tree_in (λ i. depth (f i)) here_at next_at n i) ≡ tree_in depth here next n (f i)
-  tree_places_in zero i = refl
-  tree_places_in (suc n) i =
-      map-append f (here_at i) (flat_map (λ j. tree_in (λ i. depth (f i)) here_at next_at n j) (next_at i))
-      ∙ ap (λ t. t ++ map f (flat_map (λ j. tree_in (λ i. depth (f i)) here_at next_at n j) (next_at i))) (heres i)
-      ∙ ap (λ t. here (f i) ++ t) (
-      map-flat f (λ j. tree_in (λ i. depth (f i)) here_at next_at n j) (next_at i)
-      ∙ flat_map-same (λ j. map f (tree_in (λ i. depth (f i)) here_at next_at n j)) (λ j. tree_in depth here next n (f j)) (next_at i) (λ j h. tree_places_in n j)
-      ∙ sym (flat-map (λ y. tree_in depth here next n y) f (next_at i))
-      ∙ ap (flat_map (λ y. tree_in depth here next n y)) (nexts i))
-
-  pub tree_places : (i : I) → map f (tree (λ i. depth (f i)) here_at next_at i) ≡ tree depth here next (f i)
-  unfolding tree
-  tree_places i = tree_places_in (suc (depth (f i))) i
