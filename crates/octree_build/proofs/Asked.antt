@@ -1,5 +1,5 @@
 -- What a tree answers.
-use Rattle.std.proofs.Common.{◌≡◌, ℕ, [], ◌∷◌, ◌+◌, ◌-◌, ◌*◌, ◌<◌, ◌≤◌, List, length, take, drop, refl, ap, sym, ◌∙◌, subst, arith}
+use Rattle.std.proofs.Common.{◌≡◌, ℕ, [], ◌∷◌, ◌-◌, ◌*◌, ◌<◌, ◌≤◌, List, length, take, drop, ap, sym, ◌∙◌, arith}
 use Rattle.std.specs.Prelude.{slice_index_or}
 use Rattle.std.proofs.lemmas.List.{length-map}
 use Rattle.std.proofs.lemmas.List.Sorted.{length_permutation}
@@ -7,7 +7,7 @@ use Rattle.cell_space.specs.Cells.{CellData}
 use Rattle.nbody_model.specs.Bodies.{BodyData}
 use Rattle.nbody_model.specs.Setups.{SetupData}
 use Rattle.nbody_model.specs.Nodes.{positions_of, members}
-use Rattle.node_moments.specs.Sums.{RawData, raw_of}
+use Rattle.node_moments.specs.Sums.{RawData}
 use Rattle.node_moments.proofs.Order.{sums_free}
 use Rattle.octree_build.specs.Trees.{IsGrown, NodeData, TreeData, cells_of, first_child, IsNodeOf, IsTree}
 use Rattle.octree_build.specs.Sums.{AreLimited, IsRange, sum_in}

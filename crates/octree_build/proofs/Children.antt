@@ -1,18 +1,16 @@
 -- The sums of a node by those of its children.
-use Rattle.std.proofs.Common.{◌≡◌, ℕ, zero, suc, ◌+◌, ◌-◌, ◌<◌, ◌≤◌, ◌^◌, Bool, true, false, not, List, [], ◌∷◌, ◌++◌, length, take, sum_by, refl, ap, sym, ◌∙◌, subst, arith, ◌⊎◌, inl, inr}
+use Rattle.std.proofs.Common.{◌≡◌, ℕ, zero, suc, ◌+◌, ◌-◌, ◌<◌, ◌≤◌, ◌^◌, false, not, List, [], ◌∷◌, ◌++◌, length, take, sum_by, refl, ap, sym, ◌∙◌, arith}
 use Rattle.std.specs.Prelude.{slice_index_or}
 use Rattle.std.specs.List.{flat_map}
 use Rattle.std.proofs.lemmas.List.{take_all}
 use Rattle.std.proofs.lemmas.List.Filters.{sum_by-filter_both}
-use Rattle.cell_space.specs.Cells.{Position, CellData, contains}
+use Rattle.cell_space.specs.Cells.{CellData, contains}
 use Rattle.cell_space.proofs.Cells.{child_within}
 use Rattle.hilbert_keys.specs.Curve.{turn_of, child_at}
 use Rattle.hilbert_keys.proofs.Turns.{is_good}
 use Rattle.hilbert_keys.proofs.Curves.{is_turn}
 use Rattle.nbody_model.specs.Bodies.{BodyData}
 use Rattle.nbody_model.specs.Nodes.{positions_of, members, is_leaf}
-use Rattle.nbody_model.specs.Moments.{mass_of}
-use Rattle.model_laws.proofs.Among.{Among}
 use Rattle.node_moments.specs.Sums.{RawData, raw_of}
 use Rattle.octree_build.specs.Trees.{opened}
 use Rattle.octree_build.specs.Slots.{IsNode}

@@ -1,5 +1,5 @@
 -- Where the members of the children of a cell begin and end.
-use Rattle.std.proofs.Common.{◌≡◌, ℕ, zero, suc, ◌+◌, ◌-◌, ◌*◌, ◌%◌, ◌^◌, ◌<◌, ◌≤◌, Bool, true, false, cond, not, eqb, ltb, List, [], ◌∷◌, ◌++◌, map, length, refl, ap, sym, ◌∙◌, subst, arith, ◌⊎◌, inl, inr, take, drop, ◌&&◌, pos}
+use Rattle.std.proofs.Common.{◌≡◌, ℕ, zero, suc, ◌+◌, ◌-◌, ◌*◌, ◌^◌, ◌<◌, ◌≤◌, Bool, true, false, cond, not, eqb, ltb, List, [], ◌∷◌, ◌++◌, map, length, refl, ap, sym, ◌∙◌, subst, arith, ◌⊎◌, inl, inr, take, drop, ◌&&◌, pos}
 use Rattle.std.specs.Prelude.{slice_index_or}
 use Rattle.std.specs.List.{filter, flat_map, count_by, AllByRecursion}
 use Rattle.std.proofs.lemmas.List.Sums.{sum_by-cons}
@@ -9,8 +9,8 @@ use Rattle.cell_space.proofs.Cells.{contains-exact}
 use Rattle.hilbert_keys.specs.Curve.{keys_in, number_of, first_key, child_along, IsCell}
 use Rattle.hilbert_keys.proofs.Curves.{cell_range, child_along_is, keys_fit}
 use Rattle.hilbert_keys.proofs.Turns.{under}
-use Rattle.hilbert_keys.proofs.Widths.{powers, quotient_is, eights}
-use Rattle.std.proofs.lemmas.Nat.{pow-add, mul-le}
+use Rattle.hilbert_keys.proofs.Widths.{quotient_is, eights}
+use Rattle.std.proofs.lemmas.Nat.{mul-le}
 use Rattle.std.proofs.lemmas.List.{take_more, append_assoc}
 use Rattle.std.proofs.lemmas.List.Concat.{flat_map-append}
 use Rattle.nbody_model.specs.Bodies.{BodyData}

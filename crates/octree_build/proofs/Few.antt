@@ -1,7 +1,6 @@
 -- A tree has at most 33 nodes for each body.
-use Rattle.std.proofs.Common.{◌≡◌, ℕ, zero, suc, ◌+◌, ◌-◌, ◌*◌, ◌<◌, ◌≤◌, Bool, true, false, cond, List, [], ◌∷◌, ◌++◌, length, sum_by, refl, ap, sym, ◌∙◌, subst, arith, inl, inr}
+use Rattle.std.proofs.Common.{◌≡◌, ℕ, zero, suc, ◌+◌, ◌-◌, ◌*◌, ◌≤◌, Bool, true, false, cond, List, [], ◌∷◌, ◌++◌, length, sum_by, refl, ap, sym, ◌∙◌, subst, arith, inl, inr}
 use Rattle.std.specs.List.{filter, flat_map, AllByRecursion}
-use Rattle.std.proofs.lemmas.Bool.{false≢true}
 use Rattle.std.proofs.lemmas.Nat.{mul-le}
 use Rattle.std.proofs.lemmas.List.Sums.{sum_by-cons, sum_by-append, length-filter, count_by-le-length}
 use Rattle.cell_space.specs.Cells.{Position, CellData, root_cell, contains}
@@ -9,11 +8,10 @@ use Rattle.hilbert_keys.specs.Curve.{children_along, turn_of, child_at, IsCell}
 use Rattle.hilbert_keys.proofs.Curves.{child_is_cell}
 use Rattle.nbody_model.specs.Bodies.{BodyData}
 use Rattle.nbody_model.specs.Nodes.{positions_of, members, is_node, is_leaf}
-use Rattle.model_laws.proofs.Among.{Among, Witness, any-witness, among-filter, each-among}
+use Rattle.model_laws.proofs.Among.{Among, Witness, any-witness, among-filter}
 use Rattle.model_laws.proofs.Cancel.{BodyAt, body_at}
 use Rattle.model_laws.proofs.Sums.{sum_by-flat_map}
 use Rattle.octree_build.specs.Trees.{opened, top, IsGrown}
-use Rattle.octree_build.specs.Laws.{HasNodesOnce}
 use Rattle.octree_build.specs.Slots.{IsNode, size_in}
 use Rattle.octree_build.specs.Sums.{AreLimited}
 use Rattle.octree_build.proofs.Once.{FromOpened, Opened, from_opened, have_nodes, root_is_cell}

@@ -1,20 +1,20 @@
 -- The way from the root down to a cell.
-use Rattle.std.proofs.Common.{◌≡◌, ℕ, zero, suc, ◌+◌, ◌-◌, ◌^◌, ◌<◌, ◌≤◌, Bool, true, false, cond, not, ◌&&◌, List, [], ◌∷◌, ◌++◌, length, map, take, drop, filter, get_or, refl, ap, sym, ◌∙◌, subst, arith, ◌⊎◌, inl, inr}
+use Rattle.std.proofs.Common.{◌≡◌, ℕ, zero, suc, ◌+◌, ◌-◌, ◌<◌, ◌≤◌, Bool, true, false, cond, not, ◌&&◌, List, [], ◌∷◌, ◌++◌, length, drop, filter, refl, ap, sym, ◌∙◌, subst, arith, ◌⊎◌, inl, inr}
 use Rattle.std.specs.Prelude.{slice_index_or}
 use Rattle.std.specs.List.{flat_map, list_any}
 use Rattle.std.proofs.lemmas.Bool.{false≢true, cases_lt}
 use Rattle.std.proofs.lemmas.List.{length-map, get_or-take, get_or-drop}
 use Rattle.cell_space.specs.Cells.{Position, CellData, root_cell, cell_at, corner, contains, digit, child, below}
-use Rattle.cell_space.proofs.Cells.{contains-exact, cell_at-contains, root_contains, digit_below, digit_contains}
+use Rattle.cell_space.proofs.Cells.{contains-exact, cell_at-contains, root_contains, digit_below}
 use Rattle.cell_space.proofs.Nested.{share_above}
-use Rattle.hilbert_keys.specs.Curve.{IsCell, child_along, children_along, child_at, turn_of, place_of}
+use Rattle.hilbert_keys.specs.Curve.{IsCell, child_along, children_along, turn_of, place_of}
 use Rattle.hilbert_keys.specs.Laws.{IsPlace}
 use Rattle.hilbert_keys.proofs.Curves.{corner_cell, down_one, each_place}
 use Rattle.nbody_model.specs.Bodies.{BodyData}
 use Rattle.nbody_model.specs.Setups.{SetupData}
 use Rattle.nbody_model.specs.Nodes.{positions_of, is_node, is_leaf}
 use Rattle.model_laws.proofs.Among.{Among, Witness, any-witness, any-among, among-filter, among-map}
-use Rattle.octree_build.specs.Trees.{opened, top, IsGrown, first_child, inside_leaf, is_tree_node, NodeData, TreeData, cells_of, IsNodeOf, IsTree, IsPlaceOf}
+use Rattle.octree_build.specs.Trees.{opened, first_child, inside_leaf, is_tree_node, NodeData, TreeData, cells_of, IsTree, IsPlaceOf}
 use Rattle.octree_build.specs.Laws.{AreBeside}
 use Rattle.octree_build.specs.Slots.{IsNode}
 use Rattle.octree_build.proofs.Grown.{are_beside}

@@ -1,8 +1,8 @@
 -- The members of a node are those of its children, one child after another.
-use Rattle.std.proofs.Common.{◌≡◌, ℕ, zero, suc, ◌+◌, ◌-◌, ◌<◌, ◌≤◌, Bool, true, false, cond, ◌||◌, ◌*◌, List, [], ◌∷◌, ◌++◌, length, map, take, drop, sum_by, refl, ap, sym, ◌∙◌, subst, arith, inl, inr}
+use Rattle.std.proofs.Common.{◌≡◌, ℕ, zero, suc, ◌+◌, ◌-◌, ◌<◌, ◌≤◌, Bool, true, false, cond, ◌||◌, ◌*◌, List, [], ◌∷◌, ◌++◌, length, map, take, drop, sum_by, refl, ap, sym, ◌∙◌, subst, arith}
 use Rattle.std.specs.Prelude.{slice_index_or}
-use Rattle.std.specs.List.{filter, flat_map, list_any, AllByRecursion}
-use Rattle.std.proofs.lemmas.List.{take_more, take-append-drop, append_assoc, append-nil}
+use Rattle.std.specs.List.{filter, flat_map, list_any}
+use Rattle.std.proofs.lemmas.List.{take_more, take-append-drop, append-nil}
 use Rattle.std.proofs.lemmas.List.Concat.{flat_map-append}
 use Rattle.std.proofs.lemmas.List.Sums.{sum_by-append}
 use Rattle.std.proofs.lemmas.Bool.{false≢true}
@@ -12,7 +12,7 @@ use Rattle.hilbert_keys.specs.Curve.{child_along, children_along, number_of, key
 use Rattle.hilbert_keys.proofs.Curves.{child_along_is}
 use Rattle.nbody_model.specs.Bodies.{BodyData}
 use Rattle.nbody_model.specs.Nodes.{positions_of, members, is_node, is_leaf}
-use Rattle.octree_build.specs.Trees.{key_at, Rises, low_of, high_of, opened}
+use Rattle.octree_build.specs.Trees.{key_at, opened}
 use Rattle.octree_build.specs.Slots.{edge, IsNode}
 use Rattle.octree_build.specs.Sums.{AreLimited}
 use Rattle.octree_build.proofs.Runs.{members_range}

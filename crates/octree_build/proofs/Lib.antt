@@ -21,3 +21,4 @@ pub mod Summed
 pub mod Found
 pub mod Ordered
 pub mod Asked
+pub mod Numbered

@@ -1,5 +1,5 @@
 -- The nodes of a whole tree.
-use Rattle.std.proofs.Common.{◌≡◌, ℕ, zero, suc, ◌+◌, ◌-◌, ◌*◌, ◌<◌, ◌≤◌, ◌^◌, Bool, true, false, List, [], ◌∷◌, ◌++◌, length, map, take, drop, get_or, refl, ap, sym, ◌∙◌, subst, arith, ◌⊎◌, inl, inr}
+use Rattle.std.proofs.Common.{◌≡◌, ℕ, suc, ◌+◌, ◌-◌, ◌*◌, ◌<◌, ◌≤◌, Bool, true, false, List, [], ◌∷◌, ◌++◌, length, take, drop, refl, ap, sym, ◌∙◌, subst, arith, ◌⊎◌, inl, inr}
 use Rattle.std.specs.Prelude.{slice_index_or}
 use Rattle.std.specs.List.{flat_map, AllByRecursion}
 use Rattle.std.proofs.lemmas.Bool.{cases_lt}
@@ -12,7 +12,7 @@ use Rattle.nbody_model.specs.Nodes.{positions_of, is_node, is_leaf}
 use Rattle.nbody_model.specs.Moments.{MomentsData, moments}
 use Rattle.node_moments.specs.Sums.{RawData}
 use Rattle.node_moments.specs.Conditions.{IsSumOf, IsOfNode}
-use Rattle.octree_build.specs.Trees.{opened, top, IsGrown, first_child, low_of, high_of, IsOver, NodeData, TreeData, cells_of, IsNodeOf, AreNodes, IsTree, IsWithin, AreWithin}
+use Rattle.octree_build.specs.Trees.{opened, top, IsGrown, first_child, low_of, high_of, IsOver, NodeData, cells_of, IsNodeOf, AreNodes, IsWithin, AreWithin}
 use Rattle.octree_build.specs.Laws.{AreBeside}
 use Rattle.octree_build.specs.Slots.{SlotData, cells_in, IsNode, IsGrowth}
 use Rattle.octree_build.specs.Sums.{AreLimited, AreSums, HaveWhole, HaveChildSums, IsMade, IsRange, sum_in}

@@ -12,7 +12,7 @@ use Rattle.model_laws.proofs.Among.{Among, each-among, each-append, each-filter}
 use Rattle.model_laws.proofs.Leaves.{shallow}
 use Rattle.model_laws.proofs.Pairs.{all_among}
 use Rattle.octree_build.specs.Trees.{opened, top, IsGrown, first_child}
-use Rattle.octree_build.specs.Laws.{ComesBefore, AreInOrder, HasNodesOnce}
+use Rattle.octree_build.specs.Laws.{ComesBefore, AreInOrder}
 use Rattle.octree_build.proofs.Once.{FromOpened, Opened, from_opened, have_nodes, among-append}
 use Rattle.octree_build.proofs.Edges.{among-at}
 use Rattle.octree_build.proofs.Opens.{drop_at}

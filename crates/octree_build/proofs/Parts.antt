@@ -1,15 +1,14 @@
 -- Ranges of bodies in the order of the curve, and the sums over them.
-use Rattle.std.proofs.Common.{◌≡◌, ℕ, zero, suc, ◌+◌, ◌-◌, ◌<◌, ◌≤◌, ◌^◌, true, List, [], ◌∷◌, ◌++◌, length, take, drop, get_or, sum_by, refl, ap, sym, ◌∙◌, subst, arith}
+use Rattle.std.proofs.Common.{◌≡◌, ℕ, ◌+◌, ◌-◌, ◌<◌, ◌≤◌, ◌^◌, true, List, [], ◌∷◌, ◌++◌, length, take, drop, get_or, sum_by, refl, ap, sym, ◌∙◌, arith}
 use Rattle.std.specs.Prelude.{slice_index_or}
 use Rattle.std.proofs.lemmas.List.{take_more, take-append-drop, get_or-drop, length-drop}
 use Rattle.std.proofs.lemmas.List.Sums.{sum_by-append, sum_by-cons}
 use Rattle.cell_space.specs.Cells.{CellData, contains}
 use Rattle.nbody_model.specs.Bodies.{BodyData}
-use Rattle.nbody_model.specs.Nodes.{positions_of, members}
+use Rattle.nbody_model.specs.Nodes.{members}
 use Rattle.nbody_model.specs.Moments.{mass_of}
 use Rattle.node_moments.specs.Sums.{RawData, raw_of}
-use Rattle.octree_build.specs.Trees.{low_of, high_of}
-use Rattle.octree_build.specs.Sums.{AreLimited, IsRange, sum_in}
+use Rattle.octree_build.specs.Sums.{IsRange}
 use Rattle.octree_build.proofs.Edges.{lies_in}
 use Rattle.octree_build.proofs.Runs.{members_range}
 use Rattle.octree_build.proofs.Tests.{some_there, within_all}

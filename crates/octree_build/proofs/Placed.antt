@@ -1,5 +1,5 @@
 -- Bodies sorted by their numbers are in the order of the curve.
-use Rattle.std.proofs.Common.{◌≡◌, ℕ, zero, suc, ◌+◌, ◌-◌, ◌*◌, ◌/◌, ◌%◌, ◌^◌, ◌<◌, ◌≤◌, List, [], ◌∷◌, ◌++◌, map, take, length, refl, ap, sym, ◌∙◌, subst, arith, All, slice_index, get_or}
+use Rattle.std.proofs.Common.{◌≡◌, ℕ, zero, suc, ◌+◌, ◌-◌, ◌*◌, ◌/◌, ◌%◌, ◌^◌, ◌<◌, ◌≤◌, List, [], ◌∷◌, ◌++◌, map, take, length, refl, ap, sym, ◌∙◌, subst, arith, slice_index}
 use Rattle.std.specs.Prelude.{slice_index_or}
 use Rattle.std.specs.List.{AllByRecursion}
 use Rattle.std.specs.List.Sorted.{IsPermutation, IsNonDecreasingBy, IsStrictlyIncreasing}
@@ -9,8 +9,7 @@ use Rattle.std.proofs.lemmas.List.Elements.{recursion_from_All, All-from_recursi
 use Rattle.cell_space.specs.Cells.{InBox}
 use Rattle.nbody_model.specs.Bodies.{BodyData}
 use Rattle.model_laws.specs.Laws.{AreBodies}
-use Rattle.octree_build.specs.Trees.{key_at, Rises, IsBefore, AreOrdered, IsAlong}
-use Rattle.octree_build.specs.Slots.{AreKeyed}
+use Rattle.octree_build.specs.Trees.{key_at, Rises, IsBefore, AreOrdered}
 use Rattle.octree_build.specs.Order.{placed, IsNumberOf, IsNumbered, AreAlong}
 use Rattle.octree_build.proofs.Opened.{blank}
 

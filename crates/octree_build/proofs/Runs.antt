@@ -1,12 +1,9 @@
 -- Ranges of a list along which a number rises.
-use Rattle.std.proofs.Common.{◌≡◌, ℕ, zero, suc, ◌+◌, ◌-◌, ◌*◌, ◌/◌, ◌<◌, ◌≤◌, ◌^◌, Bool, true, false, cond, not, ◌&&◌, eqb, ltb, List, [], ◌∷◌, refl, ap, sym, ◌∙◌, arith, ◌⊎◌, inl, inr, take, drop}
+use Rattle.std.proofs.Common.{◌≡◌, ℕ, zero, suc, ◌+◌, ◌-◌, ◌<◌, ◌≤◌, Bool, true, false, cond, not, ◌&&◌, ltb, List, [], ◌∷◌, refl, ap, sym, ◌∙◌, arith, ◌⊎◌, inl, inr, take, drop}
 use Rattle.std.specs.List.{filter, count_by, AllByRecursion}
 use Rattle.std.proofs.lemmas.List.Sums.{sum_by-cons}
-use Rattle.std.proofs.lemmas.Bool.{false≢true, eqb-true, eq-eqb, lt-ltb, le-ltb, ltb-true, cases_lt, and_from, and_parts}
-use Rattle.std.proofs.lemmas.Nat.{div-mul-add}
-use Rattle.std.proofs.Math.Nat.{lt-div-mul-add, div-mul-le_self}
+use Rattle.std.proofs.lemmas.Bool.{false≢true, lt-ltb, le-ltb, ltb-true, cases_lt}
 use Rattle.cell_space.specs.Cells.{InBox, CellData, contains}
-use Rattle.cell_space.proofs.Cells.{both_equal}
 use Rattle.hilbert_keys.specs.Curve.{keys_in, number_of, first_key, IsCell}
 use Rattle.hilbert_keys.proofs.Curves.{cell_range}
 use Rattle.hilbert_keys.proofs.Widths.{quotient_is, eights}

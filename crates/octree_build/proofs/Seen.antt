@@ -1,23 +1,20 @@
 -- A child's sums from the corner of its parent, and the moments of sums.
-use Rattle.std.proofs.Common.{◌≡◌, ℕ, true, false, List, [], ◌∷◌, ◌++◌, length, take, sum_by, refl, ap, sym, ◌∙◌, subst, arith, inl, inr, All}
-use Rattle.std.specs.List.{filter, AllByRecursion}
+use Rattle.std.proofs.Common.{◌≡◌, ℕ, true, List, [], ◌∷◌, refl, ap, sym, ◌∙◌, subst, arith, inl}
 use Rattle.std.specs.List.Sorted.{IsPermutation}
-use Rattle.std.proofs.lemmas.List.Sorted.{sum_by-IsPermutation, All-permutation, IsPermutation-sym, length_permutation}
+use Rattle.std.proofs.lemmas.List.Sorted.{sum_by-IsPermutation, All-permutation, length_permutation}
 use Rattle.std.proofs.lemmas.List.Elements.{recursion_from_All, All-from_recursion}
-use Rattle.std.proofs.lemmas.Bool.{false≢true}
-use Rattle.cell_space.specs.Cells.{Position, CellData, InBox, contains, place}
+use Rattle.cell_space.specs.Cells.{CellData, InBox, contains, place}
 use Rattle.nbody_model.specs.Bodies.{BodyData}
 use Rattle.nbody_model.specs.Setups.{SetupData}
 use Rattle.nbody_model.specs.Nodes.{positions_of, members, is_node}
-use Rattle.nbody_model.specs.Moments.{mass_of, moments}
 use Rattle.model_laws.proofs.Among.{Among, Witness, any-witness, among-filter, among-kept, each-among}
 use Rattle.model_laws.proofs.Cancel.{BodyAt, body_at}
 use Rattle.node_moments.specs.Sums.{RawData, raw_of}
 use Rattle.node_moments.specs.Conditions.{IsSumOf, IsOfNode}
 use Rattle.node_moments.proofs.Order.{sums_free}
 use Rattle.node_moments.proofs.Within.{Spans, spans_within}
-use Rattle.octree_build.specs.Trees.{IsOver, IsAlong}
-use Rattle.octree_build.specs.Sums.{AreLimited, HaveWhole, IsChildSum, sum_in}
+use Rattle.octree_build.specs.Trees.{IsOver}
+use Rattle.octree_build.specs.Sums.{AreLimited, IsChildSum, sum_in}
 use Rattle.octree_build.proofs.Placed.{rises_along}
 use Rattle.octree_build.proofs.Alike.{node_alike}
 use Rattle.octree_build.proofs.Parts.{sum_cell}

@@ -40,6 +40,10 @@ pub record AreKeyed (keys : List ℕ) (S : List BodyData) : Type 0 where
   pub rises : Rises key_at S
   pub in_box : AllByRecursion (λ b. InBox b.motion.pos) S
 
+-- a child d was listed, if it has members, which end at a place
+abbrev pub PutsChild : List BodyData → List SlotData → CellData → ℕ → List SlotData → Type 0
+PutsChild S old d end new = (end ≡ high_of S d) × (new ≡ old ++ listed S d)
+
 -- a cell whose members begin at a place and whose keys end below a bound
 pub record IsChildAt (S : List BodyData) (level at bound : ℕ) (d : CellData) : Type 0 where
   pub cell : IsCell d

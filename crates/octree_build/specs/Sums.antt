@@ -1,8 +1,9 @@
 -- Sums over members, from the last node to the first.
-use Rattle.std.specs.Prelude.{◌≡◌, ◌≤◌, ◌<◌, ℕ, ◌-◌, ◌^◌, Bool, true, false, List, length, slice_index_or}
+use Rattle.std.specs.Prelude.{◌≡◌, ◌≤◌, ◌<◌, ℕ, ◌-◌, ◌^◌, true, false, List, length, slice_index_or}
 use Rattle.std.specs.List.{AllByRecursion}
 use Rattle.cell_space.specs.Cells.{Position, InBox, CellData, contains}
 use Rattle.nbody_model.specs.Bodies.{BodyData}
+use Rattle.nbody_model.specs.Setups.{SetupData}
 use Rattle.nbody_model.specs.Nodes.{positions_of, members, is_node, is_leaf}
 use Rattle.nbody_model.specs.Moments.{mass_of}
 use Rattle.node_moments.specs.Sums.{RawData, raw_of}
@@ -60,3 +61,7 @@ pub record IsMade (soft : List ℕ) (S : List BodyData) (slots : List SlotData) 
   pub whole : HaveWhole soft S
   pub growth : IsGrowth S slots firsts
   pub sums : AreSums soft S (cells_in slots) 0 raws
+
+-- what holds for each setup and each order of the bodies over which the sums are made
+abbrev pub OverMade : List BodyData → List SlotData → List ℕ → List RawData → (SetupData → List BodyData → Type 0) → Type 0
+OverMade S slots firsts raws P = (s : SetupData) (B : List BodyData) → IsOver s.soft B S → IsMade s.soft S slots firsts raws → P s B

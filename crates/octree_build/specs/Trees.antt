@@ -1,5 +1,5 @@
 -- The tree of nodes as one list, each level in the order of the curve, and the bodies in that order.
-use Rattle.std.specs.Prelude.{◌≡◌, ◌≤◌, ◌<◌, ℕ, ◌+◌, ◌*◌, ◌^◌, Bool, true, false, not, ◌&&◌, nat_lt, if◌then◌else◌, ⊤, List, [], ◌∷◌, ◌++◌, length, map, filter, take, slice_index_or}
+use Rattle.std.specs.Prelude.{◌≡◌, ◌≤◌, ◌<◌, ℕ, ◌+◌, ◌^◌, Bool, true, false, not, Option, MatchOption, ◌&&◌, nat_lt, if◌then◌else◌, ⊤, List, [], ◌∷◌, ◌++◌, length, map, filter, take, slice_index_or}
 use Rattle.std.specs.List.{list_any, flat_map, count_by, AllByRecursion}
 use Rattle.std.specs.List.Sorted.{IsPermutation}
 use Rattle.cell_space.specs.Cells.{Position, CellData, root_cell, cell_at, corner, contains, below}
@@ -145,3 +145,11 @@ pub record IsWithin (bodies nodes : ℕ) (n : NodeData) : Type 0 where
 pub record AreWithin (t : TreeData) : Type 0 where
   pub few : length t.nodes < 2 ^ 32
   pub each : AllByRecursion (IsWithin (length t.bodies) (length t.nodes)) t.nodes
+
+-- the cell of the node at a place
+abbrev pub cell_of_node : List NodeData → ℕ → NodeData → CellData
+cell_of_node nodes i d = (slice_index_or nodes i d).moments.cell
+
+-- the child of a node that contains a position, or none
+abbrev pub ChildTowards : Option ℕ → List NodeData → NodeData → Position → Type 0
+ChildTowards found nodes n p = MatchOption found (NoneAround nodes n.first n.number p) (IsAround nodes n.first n.number p)

@@ -5,7 +5,7 @@ ghost use Rattle.cell_space.specs.Cells.{CellData};
 ghost use Rattle.hilbert_keys.specs.Curve.{IsCell, first_key, keys_in, number_of};
 ghost use Rattle.octree_build.specs.Trees.{Rises, low_of, high_of, key_at, opened};
 ghost use Rattle.nbody_model.specs.Nodes.{positions_of};
-ghost use Rattle.octree_build.specs.Slots.{AreKeyed, IsGrowing, IsGrowth, IsStep, IsNode, SlotData, slot_of, IsChildAt, IsToOpen, edge, edge_key, keys_below, listed, slots_below};
+ghost use Rattle.octree_build.specs.Slots.{PutsChild, AreKeyed, IsGrowing, IsGrowth, IsStep, IsNode, SlotData, slot_of, IsChildAt, IsToOpen, keys_below, slots_below};
 
 use cell_space::{Cell, cell_of};
 use fixed_point::Memory;
@@ -62,7 +62,7 @@ fn push_child(
     requires child { (d : CellData) × IsChildAt bodies.now level at bound d }
     requires high { keys_below keys.now bound ≤ high }
     requires within { high ≤ length bodies.now }
-    ensures { (d : CellData) → IsChildAt bodies.now level at bound d → IfOk result (λ end. (end ≡ high_of bodies.now d) × (out.new.items ≡ out.old.items ++ listed bodies.now d)) }
+    ensures { (d : CellData) → IsChildAt bodies.now level at bound d → IfOk result (λ end. PutsChild bodies.now out.old.items d end out.new.items) }
 {
     let end = end_of(keys, at, high, bound);
     if at == end {

@@ -4,9 +4,9 @@ ghost use Rattle.cell_space.specs.Cells.{contains, corner, place};
 ghost use Rattle.nbody_model.specs.Bodies.{BodyData, IsValid};
 ghost use Rattle.nbody_model.specs.Setups.{AreSoftenings, SetupData};
 ghost use Rattle.nbody_model.specs.Nodes.{members, positions_of};
-ghost use Rattle.octree_build.specs.Trees.{AreNodes, AreWithin, IsAround, IsNodeOf, IsOfBodies, IsOver, IsPlaceOf, IsTree, NodeData, NoneAround, is_tree_node};
+ghost use Rattle.octree_build.specs.Trees.{AreNodes, AreWithin, ChildTowards, IsAround, IsNodeOf, IsOfBodies, IsOver, IsPlaceOf, IsTree, NodeData, NoneAround, cell_of_node, is_tree_node};
 ghost use Rattle.octree_build.specs.Slots.{AreKeyed, cells_in};
-ghost use Rattle.octree_build.specs.Sums.{HaveWhole, IsMade, sum_in};
+ghost use Rattle.octree_build.specs.Sums.{HaveWhole, IsMade, OverMade, sum_in};
 
 use crate::grow::{grow, read};
 use crate::order::in_order;
@@ -61,7 +61,7 @@ impl Model for Tree {
 fn node_at(all: &Grown, raws: &[Raw], i: usize) -> Node
     requires made { (soft : List ℕ) × IsMade soft all.now.bodies.now all.now.slots.now all.now.firsts.now raws.now }
     requires place { i < length all.now.slots.now }
-    ensures { (s : SetupData) (B : List BodyData) → IsOver s.soft B all.now.bodies.now → IsMade s.soft all.now.bodies.now all.now.slots.now all.now.firsts.now raws.now → IsNodeOf s B all.now.bodies.now (cells_in all.now.slots.now) i result }
+    ensures { OverMade all.now.bodies.now all.now.slots.now all.now.firsts.now raws.now (λ s B. IsNodeOf s B all.now.bodies.now (cells_in all.now.slots.now) i result) }
 {
     let (_cell, low, high) = read(all.slots, i);
     let first = all.firsts[i];
@@ -80,7 +80,7 @@ fn node_at(all: &Grown, raws: &[Raw], i: usize) -> Node
 /// The nodes of all cells.
 fn nodes_of(alloc: Global, all: &Grown, raws: &[Raw]) -> Result<Vec<Node>, Memory>
     requires { (soft : List ℕ) × IsMade soft all.now.bodies.now all.now.slots.now all.now.firsts.now raws.now }
-    ensures { (s : SetupData) (B : List BodyData) → IsOver s.soft B all.now.bodies.now → IsMade s.soft all.now.bodies.now all.now.slots.now all.now.firsts.now raws.now → IfOk result (λ nodes. AreNodes s B all.now.bodies.now nodes.items) }
+    ensures { OverMade all.now.bodies.now all.now.slots.now all.now.firsts.now raws.now (λ s B. IfOk result (λ nodes. AreNodes s B all.now.bodies.now nodes.items)) }
 {
     let mut nodes = Vec::with_capacity(alloc, all.slots.len())?;
     for i in 0..all.slots.len() {
@@ -198,7 +198,7 @@ impl Tree {
     pub fn members(&self, i: u32) -> &[Body]
         requires { i < length self.now.nodes }
         ensures range { (d : NodeData) → let n = slice_index_or self.now.nodes i d in result.now ≡ take (n.high - n.low) (drop n.low self.now.bodies) }
-        ensures exact { (s : SetupData) (B : List BodyData) → IsTree s B self.now → (d : NodeData) → result.now ≡ members self.now.bodies (slice_index_or self.now.nodes i d).moments.cell }
+        ensures exact { (s : SetupData) (B : List BodyData) → IsTree s B self.now → (d : NodeData) → result.now ≡ members self.now.bodies (cell_of_node self.now.nodes i d) }
     {
         self.range(i)
     }
@@ -216,7 +216,7 @@ impl Tree {
     pub fn raw(&self, i: u32) -> Raw
         requires place { i < length self.now.nodes }
         requires tree { IsOfBodies self.now }
-        ensures { (s : SetupData) (B : List BodyData) → IsTree s B self.now → (d : NodeData) → result ≡ sum_in s.soft B (slice_index_or self.now.nodes i d).moments.cell }
+        ensures { (s : SetupData) (B : List BodyData) → IsTree s B self.now → (d : NodeData) → result ≡ sum_in s.soft B (cell_of_node self.now.nodes i d) }
     {
         let (cell, low, high) = range_at(&self.nodes, i);
         sum_of_range(&cell, &self.bodies, low, high, &self.soft)
@@ -225,7 +225,7 @@ impl Tree {
     // The child of a node that contains the corner of a cell.
     fn child_towards(&self, i: u32, cell: &Cell) -> Option<u32>
         requires { i < length self.now.nodes }
-        ensures { (d : NodeData) → let n = slice_index_or self.now.nodes i d in MatchOption result (NoneAround self.now.nodes n.first n.number (corner cell.now)) (IsAround self.now.nodes n.first n.number (corner cell.now)) }
+        ensures { (d : NodeData) → ChildTowards result self.now.nodes (slice_index_or self.now.nodes i d) (corner cell.now) }
     {
         let (first, number) = self.children(i);
         child_around(&self.nodes, first, number, cell.corner)

@@ -1,5 +1,4 @@
-use Rattle.std.proofs.Common.{◌≡◌, ◌+◌, take, ap, ◌∙◌, arith}
-use Rattle.octree_build.specs.Order.{placed}
+use Rattle.std.proofs.Common.{◌∙◌}
 use Rattle.octree_build.proofs.Placed.{number_more}
 use Rattle.octree_build.proofs.order.numbers_of.Goals as goal
 

@@ -1,4 +1,3 @@
-use Rattle.std.proofs.Common.{◌≡◌}
 use Rattle.std.proofs.lemmas.List.Sorted.{IsNonDecreasingBy-from_sort}
 use Rattle.octree_build.proofs.Placed.{numbered}
 use Rattle.octree_build.proofs.order.sorted_numbers.Goals as goal

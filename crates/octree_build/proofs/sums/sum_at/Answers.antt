@@ -1,6 +1,6 @@
-use Rattle.std.proofs.Common.{◌≡◌, ◌-◌, ◌≤◌, length, sym, subst, ap, ◌∙◌, arith}
+use Rattle.std.proofs.Common.{◌-◌, length, sym, subst, ap, ◌∙◌, arith}
 use Rattle.std.specs.Prelude.{slice_index_or}
-use Rattle.octree_build.specs.Slots.{SlotData, cells_in}
+use Rattle.octree_build.specs.Slots.{SlotData}
 use Rattle.octree_build.specs.Sums.{HaveChildSums, sum_in}
 use Rattle.octree_build.proofs.Made.{slot_range, end_within, number_is, child_sums, cell_there, at_any}
 use Rattle.octree_build.proofs.Summed.{range_as}

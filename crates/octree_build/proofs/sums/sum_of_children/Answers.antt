@@ -1,4 +1,4 @@
-use Rattle.std.proofs.Common.{◌≡◌, ◌+◌, ◌-◌, ◌<◌, ◌≤◌, arith}
+use Rattle.std.proofs.Common.{arith}
 use Rattle.octree_build.proofs.Children.{child_some, child, child_sum, first_sum, first_child_sum, same_cells, children_room, children_light, next_child_sum, all_child_sums}
 use Rattle.octree_build.proofs.sums.sum_of_children.Goals as goal
 

@@ -1,4 +1,4 @@
-use Rattle.std.proofs.Common.{◌≡◌, ◌+◌, ◌<◌, ◌≤◌, ap, sym, ◌∙◌, arith}
+use Rattle.std.proofs.Common.{◌≡◌, ap, sym, ◌∙◌, arith}
 use Rattle.cell_space.specs.Cells.{contains}
 use Rattle.nbody_model.specs.Bodies.{BodyData}
 use Rattle.node_moments.specs.Sums.{raw_of}

@@ -1,4 +1,4 @@
-use Rattle.std.proofs.Common.{◌+◌, ◌<◌, sym, ◌∙◌, arith}
+use Rattle.std.proofs.Common.{sym, ◌∙◌, arith}
 use Rattle.cell_space.specs.Cells.{place}
 use Rattle.octree_build.proofs.Found.{around_more}
 use Rattle.octree_build.proofs.tree.child_around.Goals as goal

@@ -1,8 +1,7 @@
-use Rattle.std.proofs.Common.{◌≡◌, ◌+◌, ◌-◌, ◌<◌, ◌≤◌, length, sym, subst, ap, ◌∙◌, arith}
+use Rattle.std.proofs.Common.{◌-◌, sym, subst, arith}
 use Rattle.std.specs.Prelude.{slice_index_or}
-use Rattle.octree_build.specs.Slots.{SlotData, cells_in}
+use Rattle.octree_build.specs.Slots.{cells_in}
 use Rattle.octree_build.specs.Trees.{IsNodeOf}
-use Rattle.octree_build.proofs.Seen.{limited}
 use Rattle.octree_build.proofs.Parts.{range_some, range_within}
 use Rattle.octree_build.proofs.Made.{slot_range, few_cells, number_is, end_within, raw_node, node_made, at_any}
 use Rattle.octree_build.proofs.tree.node_at.Goals as goal

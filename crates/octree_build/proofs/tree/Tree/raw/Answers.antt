@@ -1,7 +1,6 @@
-use Rattle.std.proofs.Common.{◌≡◌, List, sym, subst, ap, ◌∙◌}
+use Rattle.std.proofs.Common.{◌≡◌, sym, subst, ap, ◌∙◌}
 use Rattle.std.specs.Prelude.{slice_index_or}
 use Rattle.std.proofs.lemmas.List.{get_or_default}
-use Rattle.nbody_model.specs.Bodies.{BodyData}
 use Rattle.octree_build.specs.Trees.{NodeData, TreeData}
 use Rattle.octree_build.specs.Sums.{IsRange, sum_in}
 use Rattle.octree_build.proofs.Asked.{node_range, raw_is}
