@@ -38,3 +38,17 @@ pub fn cell_key_range(cell: &Cell) -> (u128, u128)
     let [x, y, z] = cell.corner;
     range_of(cell.level, x, y, z)
 }
+
+/// The cell of a level and a corner of the box is one of the box.
+fn corner_is_of_box(level: u8, x: u32, y: u32, z: u32)
+    requires { IsCorner level (x ∷ y ∷ z ∷ []) }
+    ensures { IsCell (seen level (x ∷ y ∷ z ∷ [])) }
+{}
+
+/// Each cell is one of the box. It reads the cell once.
+pub fn is_of_box(cell: &Cell)
+    ensures { IsCell cell.now }
+{
+    let [x, y, z] = cell.corner;
+    corner_is_of_box(cell.level, x, y, z);
+}

@@ -7,7 +7,7 @@ mod laws;
 mod positions;
 mod steps;
 
-pub use cells::{cell_key_range, keys_in};
+pub use cells::{cell_key_range, is_of_box, keys_in};
 pub use keys::key_of;
 pub use laws::{
     cells_are_ranges, children_are_next, each_child_has_place, keys_tell_cells, neighbours_follow,

@@ -1,0 +1,5 @@
+pub mod Trees
+pub mod Slots
+pub mod Order
+pub mod Sums
+pub mod Laws
