@@ -54,7 +54,7 @@ def test_arrays_and_a_mass_table(made, tmp_path):
     made(tmp_path, "convert", "to-integer", "in.npz", "a", "param", "--box", BOX, *WORDS)
     bodies = gadget_tools.read(tmp_path / "a").bodies.by_id()
     assert (bodies.mass == 2**32 // 50).all() and (bodies.kind == 1).all()
-    head = struct.pack(float_files.HEADER, 0, 50, 0, 0, 0, 0, 0, 2e-3, 0, 0, 0, 0, 0, 0, 0, 0, 0, 50, 0, 0, 0, 0, 0, 1, BOX, 0, 0, 1, 0, 0, *[0] * 7).ljust(256, b"\0")
+    head = struct.pack(float_files.HEADER, 0, 50, *[0] * 4, 0, 2e-3, *[0] * 4, 0, 0, 0, 0, 0, 50, *[0] * 4, 0, 1, BOX, 0, 0, 1, *[0] * 9).ljust(256, b"\0")
     data = b""
     for contents in (head, source.pos.astype("<f8").tobytes(), source.vel.astype("<f4").tobytes(), source.id.astype("<u8").tobytes()):
         data += struct.pack("<I", len(contents)) + contents + struct.pack("<I", len(contents))

@@ -15,7 +15,8 @@ def converted(made, tmp_path_factory):
     """A folder with a float snapshot `in`, and x.gad, what it became by way of whole numbers; the bodies of the first, by id."""
     folder, rng, count = tmp_path_factory.mktemp("converted"), numpy.random.default_rng(8), 300
     kind = numpy.sort(rng.choice([1, 2, 3], count)).astype("u1")
-    source = float_files.arrays_snapshot("in", rng.uniform(0, BOX, (count, 3)), rng.normal(0, 100, (count, 3)), rng.uniform(1, 2, count), rng.permutation(count) + 1, kind)
+    pos, vel = rng.uniform(0, BOX, (count, 3)), rng.normal(0, 100, (count, 3))
+    source = float_files.arrays_snapshot("in", pos, vel, rng.uniform(1, 2, count), rng.permutation(count) + 1, kind)
     source.box = BOX
     (folder / "in").write_bytes(float_files.float_bytes(source, 1))
     made(folder, "convert", "to-integer", "in", "ics", "param", "--gravity", 1, "--time-max", 0.1)
@@ -55,6 +56,7 @@ def test_splash(converted):
 @pytest.mark.skipif(not shutil.which("splash"), reason="Debian's package splash isn't installed")
 def test_a_picture_by_splash(converted):
     folder = converted[0]
-    subprocess.run(["splash", "-gadget", "--format=2", "one.gad", "-x", "1", "-y", "2", "--hsoft=2", "-dev", "p.png"], cwd=folder, stdin=subprocess.DEVNULL, capture_output=True, timeout=60)
+    words = ["splash", "-gadget", "--format=2", "one.gad", "-x", "1", "-y", "2", "--hsoft=2", "-dev", "p.png"]
+    subprocess.run(words, cwd=folder, stdin=subprocess.DEVNULL, capture_output=True, timeout=60)
     pictures = [path for path in folder.iterdir() if path.suffix == ".png"]
     assert pictures and pictures[0].read_bytes()[:4] == b"\x89PNG" and pictures[0].stat().st_size > 1000

@@ -125,7 +125,8 @@ def test_altered_snapshots(at, byte, text, sphere, program, tmp_path):
     assert str(tmp_path / "bad") in str(fault.value) and "byte" in str(fault.value)
 
 
-@pytest.mark.parametrize("at, value", [(0, 1), (8, 3), (12, 9), (16, 1), (24, 7), (80, 99), (88, 0), (97, 255), (133, 1), (161, 0), (168, 200), (228, 0), (7972, 1)])
+@pytest.mark.parametrize("at, value", [(0, 1), (8, 3), (12, 9), (16, 1), (24, 7), (80, 99), (88, 0), (97, 255), (133, 1), (161, 0),
+                                       (168, 200), (228, 0), (7972, 1)])
 def test_altered_restart_files_are_refused_where_the_program_refuses(at, value, sphere, program, tmp_path):
     for name in ("param.txt", "param.txt.times"):
         shutil.copy(sphere[0] / name, tmp_path)

@@ -68,11 +68,12 @@ def test_the_program_accepts_both(written, sphere, program):
     lines = [line for line in text.split("\n") if not line.startswith(("Output", "TimeMax", "LowBin", "TopBin"))]
     (folder / "p").write_text("\n".join(lines + ["EwaldTableFile ew", "ExpansionTableFile exp", "TimeMax 393216", "LowBin 16", "TopBin 16"]))
     assert program(folder, "check", "p").out.startswith("ok bodies 150 ")
-    for name, at, byte, text in (("ew", 8, 9, "table grid 9"), ("exp", 8, 41, "expansion spacing 41"), ("ew", 16, 1, "table plane 0"), ("exp", 16, 1, "expansion entry 0")):
+    for name, at, byte, text in (("ew", 8, 9, "table grid 9"), ("exp", 8, 41, "expansion spacing 41"),
+                                 ("ew", 16, 1, "table plane 0"), ("exp", 16, 1, "expansion entry 0")):
         data = bytearray((folder / name).read_bytes())
-        kept, data[at] = data[at], byte
+        data[at] = byte
         (folder / "bad").write_bytes(data)
-        (folder / "q").write_text((folder / "p").read_text().replace(("EwaldTableFile " if name == "ew" else "ExpansionTableFile ") + name, ("EwaldTableFile" if name == "ew" else "ExpansionTableFile") + " bad"))
+        (folder / "q").write_text((folder / "p").read_text().replace("TableFile " + name, "TableFile bad"))
         assert program(folder, "check", "q").out == text
         with pytest.raises(gadget_tools.Fault):
             gadget_tools.read(folder / "bad")
@@ -101,7 +102,8 @@ def test_growth():
 
 
 @pytest.mark.parametrize("words, cause", [
-    (["--start", 1, "--end", 0.5], "don't rise"), (["--start", 0.1, "--omega-m", -1], "isn't above 0"), (["--start", 0.1, "--omega-lambda", 5], "doesn't expand"),
+    (["--start", 1, "--end", 0.5], "don't rise"), (["--start", 0.1, "--omega-m", -1], "isn't above 0"),
+    (["--start", 0.1, "--omega-lambda", 5], "doesn't expand"),
     (["--start", 0.1, "--base-steps", 1 << 25], "aren't 1 to 2^40"), (["--start", 0.1, "--spacing", 19], "don't fit")])
 def test_refused_expansions(words, cause, tools, tmp_path):
     answer = tools(tmp_path, "expansion-table", "exp", *words)

@@ -38,7 +38,7 @@ def do_info(args):
     from .reading import read
     for path in args.files:
         lines = info_lines(read(path, args.kind))
-        print("\n".join(("%s: %s" if place == 0 else "%.0s  %s") % (path, line) for place, line in enumerate(lines)))
+        print("%s: %s" % (path, "\n  ".join(lines)))
 
 
 def do_to_integer(args):
@@ -217,28 +217,39 @@ def with_force(parser):
 def with_run(parser, theta=64):
     """What a parameter file needs besides the units."""
     parser.add_argument("ics", metavar="ICS", help="the snapshot to write, where the run begins")
-    parser.add_argument("param", metavar="PARAM", help="the parameter file to write, in the same folder; PARAM.units.json and PARAM.times come beside it")
+    parser.add_argument("param", metavar="PARAM",
+                        help="the parameter file to write, in the same folder; PARAM.units.json and PARAM.times come beside it")
     parser.add_argument("--base", default="snapshot", help="SnapshotFileBase (default snapshot)")
-    parser.add_argument("--theta", type=whole(0, 256), default=theta, help="ErrTolTheta in 1/256; 0: every pair of bodies (default %(default)s)")
-    parser.add_argument("--accuracy", type=whole(1, 65536), default=1638, help="ErrTolIntAccuracy in 1/65536 (default 1638, which is 0.025)")
+    parser.add_argument("--theta", type=whole(0, 256), default=theta,
+                        help="ErrTolTheta in 1/256; 0: every pair of bodies (default %(default)s)")
+    parser.add_argument("--accuracy", type=whole(1, 65536), default=1638,
+                        help="ErrTolIntAccuracy in 1/65536 (default 1638, which is 0.025)")
     parser.add_argument("--low-bin", type=whole(1, 20), default=1, help="the finest steps are 2^LOW_BIN ticks (default 1)")
-    parser.add_argument("--snapshots", type=whole(1, 65535), default=1, metavar="N", help="snapshots at N + 1 even times from the start to the end (default 1: at the end alone)")
+    parser.add_argument("--snapshots", type=whole(1, 65535), default=1, metavar="N",
+                        help="snapshots at N + 1 even times from the start to the end (default 1: at the end alone)")
     parser.add_argument("--ewald-table", metavar="FILE", help="EwaldTableFile, a table in the same folder")
-    parser.add_argument("--restart-every", type=whole(0, 1000000), default=0, metavar="N", help="a restart file after every N base steps (default 0: none)")
+    parser.add_argument("--restart-every", type=whole(0, 1000000), default=0, metavar="N",
+                        help="a restart file after every N base steps (default 0: none)")
     parser.add_argument("--bin-file", metavar="FILE", help="BinFile: write the ids of every finer step there")
     with_force(parser)
 
 
 def add_convert(words):
     convert = words.add_parser("convert", help="float snapshots to whole numbers and back").add_subparsers(dest="direction", required=True)
-    parser = convert.add_parser("to-integer", help="a float snapshot of format 1 or 2, or an .npz file with pos, vel and mass, to a run's snapshot and parameter file")
-    parser.add_argument("source", metavar="IN", help="the float snapshot, or an .npz file with arrays pos, vel, mass and perhaps id and kind")
+    parser = convert.add_parser("to-integer",
+                        help="a float snapshot of format 1 or 2, or an .npz file with pos, vel and mass, to a run's snapshot and parameter file")
+    parser.add_argument("source", metavar="IN",
+                        help="the float snapshot, or an .npz file with arrays pos, vel, mass and perhaps id and kind")
     with_run(parser)
     parser.add_argument("--box", type=number_above_zero, help="the box in the file's length unit (default: BoxSize of the header)")
-    parser.add_argument("--gravity", type=number_above_zero, required=True, metavar="G", help="the gravity constant in the file's units; 43007.1 for kpc, 1e10 solar masses and km/s")
-    parser.add_argument("--velocity-shift", type=whole(0, 40), metavar="V", help="VelocityShift (default: 20, or less where momenta or times need it)")
-    parser.add_argument("--softening", type=softening, action="append", metavar="TYPE=LENGTH", help="Plummer softening of a type in the file's length unit (default 0.04 of the mean distance)")
-    parser.add_argument("--time-max", type=number_above_zero, metavar="T", help="how long the run lasts in the file's time unit; not in a comoving run")
+    parser.add_argument("--gravity", type=number_above_zero, required=True, metavar="G",
+                        help="the gravity constant in the file's units; 43007.1 for kpc, 1e10 solar masses and km/s")
+    parser.add_argument("--velocity-shift", type=whole(0, 40), metavar="V",
+                        help="VelocityShift (default: 20, or less where momenta or times need it)")
+    parser.add_argument("--softening", type=softening, action="append", metavar="TYPE=LENGTH",
+                        help="Plummer softening of a type in the file's length unit (default 0.04 of the mean distance)")
+    parser.add_argument("--time-max", type=number_above_zero, metavar="T",
+                        help="how long the run lasts in the file's time unit; not in a comoving run")
     parser.add_argument("--max-step", type=number_above_zero, metavar="DT", help="the longest step (default: a sixteenth of the run)")
     parser.add_argument("--centre", action="store_true", help="move the bodies to the middle of the box; to-float moves them back")
     parser.add_argument("--expansion", metavar="SCALES", help="a comoving run by the table whose TABLE.scales.json this is")
@@ -258,10 +269,12 @@ def add_convert(words):
 def add_tables(words):
     parser = words.add_parser("ewald-table", help="make the table of periodic corrections")
     parser.add_argument("out", metavar="OUT")
-    parser.add_argument("--grid", type=whole(1, 6), default=5, metavar="G", help="2^G cells on half the box (default 5: 431,260 bytes; 6 takes a minute)")
+    parser.add_argument("--grid", type=whole(1, 6), default=5, metavar="G",
+                        help="2^G cells on half the box (default 5: 431,260 bytes; 6 takes a minute)")
     with_force(parser)
     parser.set_defaults(call=do_ewald_table)
-    parser = words.add_parser("expansion-table", help="make the table of kick and drift sums of a cosmology, and OUT.scales.json with its units")
+    parser = words.add_parser("expansion-table",
+                        help="make the table of kick and drift sums of a cosmology, and OUT.scales.json with its units")
     parser.add_argument("out", metavar="OUT")
     parser.add_argument("--omega-m", type=float, default=0.3, help="matter today (default 0.3)")
     parser.add_argument("--omega-lambda", type=float, default=0.7, help="the cosmological constant today (default 0.7)")
@@ -270,7 +283,8 @@ def add_tables(words):
     parser.add_argument("--base-steps", type=whole(1, 1 << 30), default=32, metavar="N", help="base steps, even in ln a (default 32)")
     parser.add_argument("--top-bin", type=whole(1, 20), default=18, metavar="B", help="a base step is 2^B ticks (default 18)")
     parser.add_argument("--spacing", type=whole(0, 20), metavar="S", help="2^S ticks between entries (default: some 2,000 entries)")
-    parser.add_argument("--sum-of-masses", type=whole(1, 1 << 32), default=1 << 32, metavar="M", help="of the snapshot, in mass units (default 2^32)")
+    parser.add_argument("--sum-of-masses", type=whole(1, 1 << 32), default=1 << 32, metavar="M",
+                        help="of the snapshot, in mass units (default 2^32)")
     with_force(parser)
     parser.set_defaults(call=do_expansion_table)
 
@@ -288,10 +302,13 @@ def add_starts(words):
     parser.set_defaults(call=do_start_sphere)
     parser = start.add_parser("waves", help="waves in an expanding box, on a lattice, by Zel'dovich's rule")
     with_run(parser, theta=0)
-    parser.add_argument("--expansion-table", required=True, metavar="FILE", help="a table of expansion-table in the same folder, with FILE.scales.json beside it")
+    parser.add_argument("--expansion-table", required=True, metavar="FILE",
+                        help="a table of expansion-table in the same folder, with FILE.scales.json beside it")
     parser.add_argument("--bodies", type=whole(5, 1 << 20), default=1009, metavar="N", help="a prime (default 1009)")
-    parser.add_argument("--height", type=number_above_zero, default=0.3, help="linear theory's height at the end: of one wave, or rms of many (default 0.3)")
-    parser.add_argument("--most", type=whole(0, 16), default=0, metavar="K", help="all waves of at most K a box (default 0: one wave along x)")
+    parser.add_argument("--height", type=number_above_zero, default=0.3,
+                        help="linear theory's height at the end: of one wave, or rms of many (default 0.3)")
+    parser.add_argument("--most", type=whole(0, 16), default=0, metavar="K",
+                        help="all waves of at most K a box (default 0: one wave along x)")
     parser.add_argument("--slope", type=float, default=-2.0, help="the squares of the heights go as k^SLOPE (default -2)")
     parser.add_argument("--seed", type=whole(0, 2**64 - 1), default=1, help="(default 1)")
     parser.add_argument("--softening", type=number_above_zero, help="in boxes (default 0.1 of the mean distance)")
@@ -315,7 +332,8 @@ def add_plots(words):
     parser.add_argument("--axis", choices=tuple("xyz"), default="z", help="look along this axis (default z)")
     parser.add_argument("--pixels", type=whole(2, 4096), default=256, help="a side, taken up to a power of two (default 256)")
     parser.add_argument("--width", type=number_above_zero, default=1.0, help="of the view in boxes: 1, 0.5, 0.25 .. (default 1)")
-    parser.add_argument("--centre", type=float, nargs=3, default=(0.5, 0.5, 0.5), metavar=("X", "Y", "Z"), help="of the view in boxes (default the middle)")
+    parser.add_argument("--centre", type=float, nargs=3, default=(0.5, 0.5, 0.5), metavar=("X", "Y", "Z"),
+                        help="of the view in boxes (default the middle)")
     parser.add_argument("--units", metavar="FILE", help="PARAM.units.json, for the times above the pictures")
     picture("kicks", "the kick file: bins used, interactions, and the total momentum as a flat line", do_plot_kicks, "KICKS")
     parser = picture("pairs", "pair counts by distance, from what `gadget pairs` is to print (not built yet)", do_plot_pairs, "TEXT")
@@ -327,7 +345,8 @@ def add_plots(words):
 
 def parser_of_words():
     from .reading import KINDS
-    parser = argparse.ArgumentParser(prog="gadget-tools", description=DESCRIPTION, epilog="See docs/USER_GUIDE.md. Exit status: 0, or 1 with one line on standard error, or 2 for wrong words.")
+    parser = argparse.ArgumentParser(prog="gadget-tools", description=DESCRIPTION,
+                        epilog="See docs/USER_GUIDE.md. Exit status: 0, or 1 with one line on standard error, or 2 for wrong words.")
     words = parser.add_subparsers(dest="word", required=True)
     info = words.add_parser("info", help="tell what files hold")
     info.add_argument("files", nargs="+", metavar="FILE")

@@ -82,7 +82,9 @@ def report_of(source, bodies, units, whole):
     masses = numpy.abs(bodies.mass * units.mass / source.mass - 1).max()
     outside = int(((whole < 0) | (whole >= BOX)).any(1).sum())
     together = len(bodies) - len(numpy.unique(bodies.pos, axis=0))
-    scale = "tick %.9g" % units.tick if not units.expansion else "tau_K %.9g, tau_D %.9g of 1/H0" % (units.expansion.tau_kick, units.expansion.tau_drift)
+    scale = "tick %.9g" % units.tick
+    if units.expansion:
+        scale = "tau_K %.9g, tau_D %.9g of 1/H0" % (units.expansion.tau_kick, units.expansion.tau_drift)
     return [
         "bodies %d, of types %s" % (len(bodies), ", ".join("%d: %d" % (kind, (bodies.kind == kind).sum()) for kind in range(1, 6) if (bodies.kind == kind).any())),
         "units: length %.9g (box / 2^32), mass %.9g, %s" % (units.length, units.mass, scale),

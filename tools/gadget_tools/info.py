@@ -35,7 +35,8 @@ def tell_snapshot(snapshot):
 def tell_restart(restart):
     inside = ", inside a base step" if restart.version == 2 else ""
     return ["restart file, version %d: tick %d, base steps %d%s" % (restart.version, restart.tick, restart.steps, inside),
-            "next snapshot %d, next restart file %d, kicks %d, interactions %d" % (restart.next_snapshot, restart.next_restart, restart.kicks, restart.interactions),
+            "next snapshot %d, next restart file %d, kicks %d, interactions %d" % (
+                restart.next_snapshot, restart.next_restart, restart.kicks, restart.interactions),
             *("%s %d" % setting for setting in restart.settings.items()), *bodies_lines(restart.bodies)]
 
 

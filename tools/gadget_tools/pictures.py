@@ -46,7 +46,8 @@ def density_picture(snapshots, times=None, **view):
             raise Fault(snapshot.name, "", "no body is in this view")
     low = min(grid[grid > 0].min() for grid, _, _, _ in views) / 2
     norm = LogNorm(vmin=low, vmax=max(4 * low, *(grid.max() for grid, _, _, _ in views)))
-    figure, row = pyplot.subplots(1, len(views), figsize=(6 if len(views) == 1 else 3.6 * len(views), 5 if len(views) == 1 else 3.6), squeeze=False, layout="constrained")
+    size = (6, 5) if len(views) == 1 else (3.6 * len(views), 3.6)
+    figure, row = pyplot.subplots(1, len(views), figsize=size, squeeze=False, layout="constrained")
     for axes, snapshot, time, (grid, across, corner, side) in zip(row[0], snapshots, times or [None] * len(views), views):
         extent = (corner[0], corner[0] + side, corner[1], corner[1] + side)
         image = axes.imshow(numpy.maximum(grid, low), origin="lower", extent=extent, norm=norm, cmap="inferno", interpolation="nearest")
@@ -106,7 +107,8 @@ def groups_picture(catalogue, snapshot, axis=2):
             raise Fault(catalogue.name, "group %d" % catalogue.label[place], "a member isn't in " + snapshot.name)
         axes[0].plot(pos[at, 0], pos[at, 1], ".", ms=2)
     middle, half = (pos.min(0) + pos.max(0)) / 2, 0.55 * numpy.ptp(pos, axis=0).max() + 1e-9
-    axes[0].set(xlim=(middle[0] - half, middle[0] + half), ylim=(middle[1] - half, middle[1] + half), aspect="equal", xlabel="xyz"[across[0]] + " / box", ylabel="xyz"[across[1]] + " / box", title="%d groups" % len(catalogue.ids))
+    axes[0].set(xlim=(middle[0] - half, middle[0] + half), ylim=(middle[1] - half, middle[1] + half), aspect="equal")
+    axes[0].set(xlabel="xyz"[across[0]] + " / box", ylabel="xyz"[across[1]] + " / box", title="%d groups" % len(catalogue.ids))
     sizes = [len(members) for members in catalogue.ids]
     axes[1].hist(sizes, bins=numpy.geomspace(1, max(sizes, default=1) + 1, 20))
     axes[1].set(xscale="log", xlabel="members", ylabel="groups")

@@ -196,11 +196,13 @@ def expansion_bytes(kick, drift, spacing):
 def expansion_report(kick, drift, spacing, scales, sum_of_masses):
     shift = scales.greatest_shift(sum_of_masses)
     gravity = scales.gravity_internal(sum_of_masses, shift) if shift is not None else None
-    lines = ["%d entries, 2^%d ticks apart; %d ticks, %.4g in ln a each" % (len(kick), spacing, scales.ticks, numpy.log(scales.a_end / scales.a_start) / scales.ticks),
+    step = numpy.log(scales.a_end / scales.a_start) / scales.ticks
+    lines = ["%d entries, 2^%d ticks apart; %d ticks, %.4g in ln a each" % (len(kick), spacing, scales.ticks, step),
              "a kick's unit tau_K is %.9g / H0, a drift's tau_D %.9g / H0" % (scales.tau_kick, scales.tau_drift),
              "the least rises are %.3f of a tick for kicks and %.3f for drifts" % (numpy.diff(kick).min() / 2**spacing, numpy.diff(drift).min() / 2**spacing)]
     if shift is None:
         raise Fault("--base-steps", "", "the gravity constant would pass 2^32 even with a velocity shift of 0; make more base steps")
-    lines.append("for a sum of masses %d: GravityConstantInternal %d, VelocityShift %d, TimeMax %d, TopBin %d" % (sum_of_masses, round(gravity), shift, scales.ticks, scales.top_bin))
+    lines.append("for a sum of masses %d: GravityConstantInternal %d, VelocityShift %d, TimeMax %d, TopBin %d" % (
+        sum_of_masses, round(gravity), shift, scales.ticks, scales.top_bin))
     lines.append("p = a^2 dx/dt * m * 2^VelocityShift * tau_D, with x in length units and t in 1/H0")
     return lines
