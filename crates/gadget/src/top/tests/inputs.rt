@@ -168,23 +168,16 @@ fn tables_are_answered(rt: HostRuntime) -> Result<(), Fail> {
     let grows = "ExpansionTableFile table.dat";
     let cut = right.get(..339).ok_or("short")?;
     let cut_steps = steps.get(..47).ok_or("short")?;
-    let cases: [(&str, &[u8], u8, &str); 9] = [
-        (named, &right, 0, STEP_DONE),
-        ("EwaldTableFile table", &right, 7, "absent table\n"),
-        (named, cut, 12, "table length 340 339\n"),
-        (named, &plane, 12, "table plane 0\n"),
-        (named, b"I4EWALD2", 12, "table tag\n"),
-        (grows, &steps, 0, STEP_DONE),
-        (grows, cut_steps, 16, "expansion length 48 47\n"),
-        (grows, &late, 16, "expansion entry 0\n"),
-        (grows, &short, 16, "expansion short 2 1\n"),
-    ];
-    for (line, bytes, code, want) in cases {
-        assert!(rt;
-            is_said_of_table(alloc, line, bytes, code, want)?,
-            "at {want}"
-        );
-    }
+    let absent = "EwaldTableFile table";
+    assert!(rt; is_said_of_table(alloc, named, &right, 0, STEP_DONE)?);
+    assert!(rt; is_said_of_table(alloc, absent, &right, 7, "absent table\n")?);
+    assert!(rt; is_said_of_table(alloc, named, cut, 12, "table length 340 339\n")?);
+    assert!(rt; is_said_of_table(alloc, named, &plane, 12, "table plane 0\n")?);
+    assert!(rt; is_said_of_table(alloc, named, b"I4EWALD2", 12, "table tag\n")?);
+    assert!(rt; is_said_of_table(alloc, grows, &steps, 0, STEP_DONE)?);
+    assert!(rt; is_said_of_table(alloc, grows, cut_steps, 16, "expansion length 48 47\n")?);
+    assert!(rt; is_said_of_table(alloc, grows, &late, 16, "expansion entry 0\n")?);
+    assert!(rt; is_said_of_table(alloc, grows, &short, 16, "expansion short 2 1\n")?);
     Ok(())
 }
 
