@@ -15,9 +15,10 @@ use Rattle.nbody_model.specs.Moments.{mass_of}
 use Rattle.nbody_model.specs.Force.{force_at, forces}
 use Rattle.nbody_model.specs.Steps.{change, kicked_by, kicked_bodies}
 use Rattle.model_laws.specs.Laws.{AreBodies, CorrectsLittle}
-use Rattle.model_laws.proofs.Among.{Among, among-filter, each-filter}
+use Rattle.model_laws.proofs.Among.{Among, among-filter, each-filter, each-weaker}
 use Rattle.model_laws.proofs.Shares.{Ascending, ascending-from}
 use Rattle.model_laws.proofs.Kept.{only_bodies}
+use Rattle.model_laws.proofs.Conserved.{mapped_all}
 use Rattle.model_laws.proofs.Bounds.{forces_bounded}
 use Rattle.model_laws.proofs.PairLimits.{pairs_bounded}
 use Rattle.kick_drift.specs.Parts.{ids_at, force_for, change_of, after_kick, AreAscending}
@@ -96,14 +97,6 @@ all_of Q (x ∷ xs) a (suc k) d lt = all_of Q xs a.1 k d (omega (arith, lt))
 lower : (n m : ℕ) (v : V3) → n ≤ m → IsAtMost n v → IsAtMost m v
 lower n m v h a = record { on_x = omega (arith, h, a.on_x); on_y = omega (arith, h, a.on_y); on_z = omega (arith, h, a.on_z) }
 
-each_mapped : {X Y : Type 0} (Q : Y → Type 0) (u : X → Y) (xs : List X) → AllByRecursion (λ x. Q (u x)) xs → AllByRecursion Q (map u xs)
-each_mapped Q u [] a = tt
-each_mapped Q u (x ∷ xs) a = (a.0, each_mapped Q u xs a.1)
-
-weaker : {X : Type 0} (Q R : X → Type 0) (xs : List X) → ((x : X) → Q x → R x) → AllByRecursion Q xs → AllByRecursion R xs
-weaker Q R [] h a = tt
-weaker Q R (x ∷ xs) h a = (h x a.0, weaker Q R xs h a.1)
-
 -- every force that was found is below 2^118
 pub forces_small : (g : Gravity) (C : List BodyData) (f : FieldData) → IsSetup g.setup → CorrectsLittle g.table → AreBodies C → AllByRecursion (λ b. b.kind ≤ 5) C → AreForcesAmong g C f → All (IsAtMost (2 ^ 118)) f.forces
 unfolding forces
@@ -112,7 +105,7 @@ forces_small g C f s t bodies kinds k =
     let heavy : mass_of C ≤ 2 ^ 32 = bodies.valid.light in
     let most : length C * 2 ^ 86 ≤ 1048576 * 2 ^ 86 = omega (arith, bodies.valid.few) in
     let small : 33 * (length C * 2 ^ 86 + mass_of C) ≤ 2 ^ 118 = omega (arith, heavy, most) in
-    subst (All (IsAtMost (2 ^ 118))) (sym k.forces) (all_of (IsAtMost (2 ^ 118)) (map (force_at g C) C) (each_mapped (IsAtMost (2 ^ 118)) (force_at g C) C (weaker (λ b. IsAtMost (33 * (length C * 2 ^ 86 + mass_of C)) (force_at g C b)) (λ b. IsAtMost (2 ^ 118) (force_at g C b)) C (λ b. lower (33 * (length C * 2 ^ 86 + mass_of C)) (2 ^ 118) (force_at g C b) small) bound)))
+    subst (All (IsAtMost (2 ^ 118))) (sym k.forces) (all_of (IsAtMost (2 ^ 118)) (map (force_at g C) C) (mapped_all (IsAtMost (2 ^ 118)) (force_at g C) C (each-weaker (λ b. IsAtMost (33 * (length C * 2 ^ 86 + mass_of C)) (force_at g C b)) (λ b. IsAtMost (2 ^ 118) (force_at g C b)) (λ b. lower (33 * (length C * 2 ^ 86 + mass_of C)) (2 ^ 118) (force_at g C b) small) C bound)))
 
 -- and there is one for each body
 pub forces_length : (g : Gravity) (C : List BodyData) (f : FieldData) → AreForcesAmong g C f → length f.forces ≡ length C

@@ -12,6 +12,7 @@ use Rattle.model_laws.specs.Nests.{ids_of}
 use Rattle.kick_drift.specs.Parts.{ids_at, AreAscending}
 use Rattle.kick_drift.proofs.Rising.{has-image}
 use Rattle.kick_drift.proofs.Chosen.{Ascend, id_at, keeps_apart}
+use Rattle.time_bins.proofs.Fast.{map_cond}
 use Rattle.step_engine.specs.Stands.{AreOf}
 use Rattle.step_engine.specs.Resumed.{deep_from, whole_places, quick_places, quick_parts}
 use Rattle.step_engine.proofs.Picks.{RisesFrom, has_below}
@@ -109,19 +110,15 @@ part_step x xs ys id true false f g h = absurd (false≢true (f refl))
 part_step x xs ys id false true f g h = or_later (x == id) (has ys id) (g h)
 part_step x xs ys id false false f g h = g h
 
-mapped : (u : ℕ → ℕ) (k : ℕ) (ps : List ℕ) (t : Bool) → map u (cond t (k ∷ ps) ps) ≡ cond t (u k ∷ map u ps) (map u ps)
-mapped u k ps true = refl
-mapped u k ps false = refl
-
 less_deep : (n d : ℕ) → nat_le (n + 1) d ≡ true → nat_le n d ≡ true
 less_deep n d e = le-leb n d (omega (arith, leb-true (n + 1) d e))
 
 deeper_part : (u : ℕ → ℕ) (n k : ℕ) (ds : List ℕ) (id : ℕ) → has (map u (deep_from (n + 1) k ds)) id ≡ true → has (map u (deep_from n k ds)) id ≡ true
 deeper_part u n k [] id h = h
 deeper_part u n k (d ∷ ds) id h =
-    ap (λ xs. has xs id) (mapped u k (deep_from n (k + 1) ds) (nat_le n d)) ∙
+    ap (λ xs. has xs id) (map_cond u k (deep_from n (k + 1) ds) (nat_le n d)) ∙
     part_step (u k) (map u (deep_from (n + 1) (k + 1) ds)) (map u (deep_from n (k + 1) ds)) id (nat_le (n + 1) d) (nat_le n d) (less_deep n d) (deeper_part u n (k + 1) ds id)
-    (sym (ap (λ xs. has xs id) (mapped u k (deep_from (n + 1) (k + 1) ds) (nat_le (n + 1) d))) ∙ h)
+    (sym (ap (λ xs. has xs id) (map_cond u k (deep_from (n + 1) (k + 1) ds) (nat_le (n + 1) d))) ∙ h)
 
 fewer_step : (k : ℕ) (xs ys : List ℕ) (a b : Bool) → (a ≡ true → b ≡ true) → length xs ≤ length ys → length (cond a (k ∷ xs) xs) ≤ length (cond b (k ∷ ys) ys)
 fewer_step k xs ys true true f h = omega (arith, h)

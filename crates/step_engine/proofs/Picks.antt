@@ -1,5 +1,5 @@
 -- The bodies at some ascending places.
-use Rattle.std.proofs.Common.{◌≡◌, ◌≤◌, ◌<◌, ◌||◌, ℕ, suc, ◌+◌, ◌-◌, Bool, true, false, cond, List, [], ◌∷◌, length, map, filter, get_or, refl, ap, sym, ◌∙◌, subst, arith, ⊎_elim, eq-eqb}
+use Rattle.std.proofs.Common.{◌≡◌, ◌≢◌, ◌≤◌, ◌<◌, ◌||◌, ℕ, suc, ◌+◌, ◌-◌, Bool, true, false, cond, List, [], ◌∷◌, length, map, filter, get_or, refl, ap, sym, ◌∙◌, subst, arith, ⊎_elim, eq-eqb}
 use Rattle.std.specs.Prelude.{⊤}
 use Rattle.std.specs.List.Sorted.{IsStrictlyIncreasing}
 use Rattle.std.proofs.lemmas.Bool.{cases_order}
@@ -100,3 +100,6 @@ ids_only_at B ps up a = ap (map (λ b. b.id)) (only_at B ps up a) ∙ picked_ids
 -- and there are as many
 pub length_only_at : (B : List BodyData) (ps : List ℕ) → Ascend B → AreAscending B ps → length (only B (ids_at B ps)) ≡ length ps
 length_only_at B ps up a = ap length (only_at B ps up a) ∙ length-map ps (λ p. get_or B p blank)
+
+pub other_lengths : (B : List BodyData) (xs ys : List ℕ) → length xs ≢ length ys → length (ids_at B xs) ≢ length (ids_at B ys)
+other_lengths B xs ys h e = h (sym (length-map xs (id_at B)) ∙ e ∙ length-map ys (id_at B))

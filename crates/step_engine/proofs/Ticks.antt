@@ -1,6 +1,5 @@
 -- Ticks inside the unfinished evolves.
-use Rattle.std.proofs.Common.{◌≡◌, ◌≢◌, ◌≤◌, ◌<◌, ◌==◌, ◌+◌, ◌-◌, ◌*◌, ◌/◌, ◌%◌, ◌^◌, ℕ, zero, suc, Bool, true, false, cond, Option, refl, ap, sym, ◌∙◌, arith, pow-suc, mul_assoc, div-lt_iff_lt-mul, le_of_suc-le-suc}
-use Rattle.std.specs.Int.Count.{count_trailing_zeros, under}
+use Rattle.std.proofs.Common.{◌≡◌, ◌≢◌, ◌≤◌, ◌<◌, ◌==◌, ◌+◌, ◌-◌, ◌*◌, ◌/◌, ◌^◌, ℕ, Bool, true, false, cond, Option, refl, ap, sym, ◌∙◌, arith, mul_assoc, div-lt_iff_lt-mul}
 use Rattle.std.proofs.lemmas.Bool.{ne_eqb, eq-eqb}
 use Rattle.std.proofs.lemmas.Nat.{pow_pos, pow-add}
 use Rattle.std.proofs.Math.Nat.{mul-le-mul_right, pow-le-pow_right}
@@ -9,6 +8,7 @@ use Rattle.nbody_model.specs.Tables.{ExpansionData}
 use Rattle.nbody_model.specs.States.{low_zeros, began}
 use Rattle.step_engine.specs.Stands.{IsTimely}
 use Rattle.step_engine.specs.Resumed.{EndsInTime, IsFrom, middle_of, end_of_bin, rounds_end}
+use Rattle.model_laws.proofs.Rests.{low_of}
 use Rattle.step_engine.proofs.Times.{twice, spans_before}
 
 -- a tick lies before the end of its evolve
@@ -38,17 +38,6 @@ ends_before bin top u h =
     let last : u < end_of_bin top u = before_end top u in
     let inner : u < (n + 1) * 2 ^ (top - bin) * 2 ^ bin = omega (arith, last, m) in
     omega (arith, ends_by bin ((n + 1) * 2 ^ (top - bin)) u inner, m)
-
-pub low_of : (k c x : ℕ) → c < k → count_trailing_zeros k ((2 * x + 1) * 2 ^ c) ≡ c
-unfolding count_trailing_zeros
-low_of zero c x h = omega (arith, h)
-low_of (suc k) zero x h = let e : (2 * x + 1) * 2 ^ 0 % 2 ≡ 1 = omega arith in ap (λ d. under d (count_trailing_zeros k ((2 * x + 1) * 2 ^ 0 / 2))) e
-low_of (suc k) (suc c) x h =
-    let m = (2 * x + 1) * 2 ^ c in
-    let e : (2 * x + 1) * 2 ^ suc c ≡ m * 2 = ap (λ y. (2 * x + 1) * y) (pow-suc 2 c) ∙ sym (mul_assoc (2 * x + 1) (2 ^ c) 2) in
-    let even : (2 * x + 1) * 2 ^ suc c % 2 ≡ 0 = ap (λ y. y % 2) e ∙ omega arith in
-    let half : (2 * x + 1) * 2 ^ suc c / 2 ≡ m = ap (λ y. y / 2) e ∙ omega arith in
-    ap (λ d. under d (count_trailing_zeros k ((2 * x + 1) * 2 ^ suc c / 2))) even ∙ ap suc (ap (count_trailing_zeros k) half ∙ low_of k c x (le_of_suc-le-suc h))
 
 -- the widths of an evolve in halves
 halves : (bin n : ℕ) → 1 ≤ bin → n * 2 ^ bin ≡ 2 * n * 2 ^ (bin - 1)

@@ -7,3 +7,4 @@ pub mod BaseSteps
 pub mod Stages
 pub mod Deeper
 pub mod Resumed
+pub mod Calls

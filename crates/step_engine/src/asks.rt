@@ -1,13 +1,10 @@
 // Forces that are asked in a step.
-ghost use Rattle.std.specs.Prelude.{◌≡◌, ◌≤◌, ◌+◌, ◌*◌, ◌^◌, length, IfOk, ℕ};
+ghost use Rattle.std.specs.Prelude.{◌≡◌, IfOk};
 ghost use Rattle.nbody_model.specs.Bodies.{only};
-ghost use Rattle.nbody_model.specs.Evolve.{Asked, Going, tell};
 ghost use Rattle.model_laws.specs.Laws.{AreBodies};
 ghost use Rattle.kick_drift.specs.Parts.{AreAscending, ids_at};
-ghost use Rattle.step_engine.specs.declared.work.Work.{Work};
 ghost use Rattle.step_engine.specs.Told.{AreForcesAmong};
-ghost use Rattle.step_engine.specs.Stands.{now};
-ghost use Rattle.step_engine.specs.Ends.{Makes};
+ghost use Rattle.step_engine.specs.Calls.{Asks, asks};
 
 use crate::KickOut;
 use crate::halt::{Halt, halt_for};
@@ -25,7 +22,7 @@ pub(crate) fn ask<F: Forces, O: KickOut>(
 ) -> Result<Field, Halt>
     requires bodies { AreBodies set.now }
     requires part { AreAscending set.now part.now }
-    ensures makes { (w : Work) (n tick : ℕ) → Makes F.passes n 0 tick tick (λ stop p. Going (tell (Asked (only p.bodies (ids_at set.now part.now))) p)) result (now set.now (F.gravity forces.old) (F.fixed forces.old) (F.state forces.old) (O.faults out.old) (O.yes out.old) (O.took out.old) w) (now set.now (F.gravity forces.new) (F.fixed forces.new) (F.state forces.new) (O.faults out.new) (O.yes out.new) (O.took out.new) w) }
+    ensures makes { Asks F.Forces O.KickOut (asks (ids_at set.now part.now)) result set.now forces.old out.old forces.new out.new }
     ensures forces { IfOk result (AreForcesAmong (F.gravity forces.old) (only set.now (ids_at set.now part.now))) }
     ensures same_out { O.fixed out.new ≡ O.fixed out.old }
 {

@@ -1,24 +1,23 @@
 // A base step of all bodies.
-ghost use Rattle.std.specs.Prelude.{◌≡◌, ◌≤◌, ◌+◌, ◌-◌, ◌^◌, not, [], ℕ, IfOk, IfSome, option_copied};
+ghost use Rattle.std.specs.Prelude.{◌≡◌, ◌≤◌, ◌+◌, ◌^◌, not, [], IfOk, IfSome, option_copied};
 ghost use Rattle.nbody_model.specs.Bodies.{only, total, components};
 ghost use Rattle.nbody_model.specs.Tables.{Reaches};
-ghost use Rattle.nbody_model.specs.Evolve.{Going, ask_if, evolve};
+ghost use Rattle.nbody_model.specs.Evolve.{ask_if};
 ghost use Rattle.model_laws.specs.Conserved.{IsConserved};
 ghost use Rattle.model_laws.specs.Nests.{ids_of};
 ghost use Rattle.model_laws.specs.Laws.{AreBodies};
 ghost use Rattle.kick_drift.specs.Parts.{AreAscending, ids_at};
-ghost use Rattle.step_engine.specs.declared.work.Work.{Work};
 ghost use Rattle.step_engine.specs.Told.{AreForcesAmong};
-ghost use Rattle.step_engine.specs.Stands.{IsReady, IsTimely, now};
-ghost use Rattle.step_engine.specs.Ends.{Makes};
+ghost use Rattle.step_engine.specs.Stands.{IsReady};
 ghost use Rattle.step_engine.specs.Halts.{end_of};
-ghost use Rattle.step_engine.specs.Stages.{rules};
-ghost use Rattle.step_engine.specs.BaseSteps.{AreKnown, StandsFor, StepCause, StepEnds, is_known, whole_step};
+ghost use Rattle.step_engine.specs.BaseSteps.{AreKnown, StandsFor, StepCause, is_known};
+ghost use Rattle.step_engine.specs.Calls.{now_by, Asks, EvolvesAll, BaseStepEnds};
 
 use crate::asks::ask;
 use crate::course::Course;
 use crate::halt::Halt;
 use crate::recursion::evolve;
+use crate::steps::Step;
 use crate::work::Work;
 use crate::{Depths, KickOut, StepCount, StepEnd};
 use expansion_table::Expansion;
@@ -88,7 +87,7 @@ fn first_forces<F: Forces, O: KickOut>(
     requires bodies { AreBodies set.now }
     requires part { AreAscending set.now part.now }
     requires known { IfSome known (AreForcesAmong (F.gravity forces.old) (only set.now (ids_at set.now part.now))) }
-    ensures makes { (w : Work) (n tick : ℕ) → Makes F.passes n 0 tick tick (λ stop p. Going (ask_if (not (is_known known)) (ids_at set.now part.now) p)) result (now set.now (F.gravity forces.old) (F.fixed forces.old) (F.state forces.old) (O.faults out.old) (O.yes out.old) (O.took out.old) w) (now set.now (F.gravity forces.new) (F.fixed forces.new) (F.state forces.new) (O.faults out.new) (O.yes out.new) (O.took out.new) w) }
+    ensures makes { Asks F.Forces O.KickOut (ask_if (not (is_known known)) (ids_at set.now part.now)) result set.now forces.old out.old forces.new out.new }
     ensures forces { IfOk result (AreForcesAmong (F.gravity forces.old) (only set.now (ids_at set.now part.now))) }
     ensures same_out { O.fixed out.new ≡ O.fixed out.old }
 {
@@ -100,7 +99,6 @@ fn first_forces<F: Forces, O: KickOut>(
 
 // The base step of all bodies, by the forces among them, which are asked unless they are known.
 fn step_whole<F: Forces, O: KickOut>(
-    alloc: Global,
     course: &Course,
     set: &mut BodySet,
     forces: &mut F,
@@ -109,16 +107,16 @@ fn step_whole<F: Forces, O: KickOut>(
     known: Option<Field>,
     tick: u64,
 ) -> Result<Field, Halt>
-    requires ready { IsReady course.now.setup.now course.now.total (now set.old (F.gravity forces.old) (F.fixed forces.old) (F.state forces.old) (O.faults out.old) (O.yes out.old) (O.took out.old) work.old) }
+    requires ready { IsReady course.now.setup.now course.now.total (now_by F.Forces O.KickOut set.old forces.old out.old work.old) }
     requires known { IfSome known (AreForcesAmong (F.gravity forces.old) set.old) }
     requires early { tick ≤ 2 ^ 40 }
     requires spans { IfSome (option_copied course.now.expansion) (λ e. Reaches e (tick + 2 ^ course.now.setup.now.top_bin)) }
     requires none { work.old.count.kicks ≡ 0 }
     ensures forces { IfOk result (AreForcesAmong (F.gravity forces.old) set.new) }
-    ensures makes { Makes F.passes course.now.setup.now.top_bin (2 ^ (course.now.setup.now.top_bin + 1) - 2) tick (tick + 2 ^ course.now.setup.now.top_bin) (λ stop p. evolve (rules (F.gravity forces.old) (option_copied course.now.expansion)) stop course.now.setup.now.top_bin (ids_of set.old) tick (ask_if (not (is_known known)) (ids_of set.old) p)) result (now set.old (F.gravity forces.old) (F.fixed forces.old) (F.state forces.old) (O.faults out.old) (O.yes out.old) (O.took out.old) work.old) (now set.new (F.gravity forces.new) (F.fixed forces.new) (F.state forces.new) (O.faults out.new) (O.yes out.new) (O.took out.new) work.new) }
+    ensures makes { EvolvesAll F.Forces O.KickOut course.now (is_known known) tick result set.old forces.old out.old work.old set.new forces.new out.new work.new }
     ensures same_out { O.fixed out.new ≡ O.fixed out.old }
 {
-    let all = match all_places(alloc, set) {
+    let all = match all_places(course.alloc, set) {
         Ok(all) => all,
         Err(_) => return Err(Halt::Memory),
     };
@@ -128,18 +126,12 @@ fn step_whole<F: Forces, O: KickOut>(
         Err(e) => return Err(e),
     };
     let setup = course.setup;
-    evolve(
-        alloc,
-        course,
-        set,
-        forces,
-        out,
-        work,
-        setup.top_bin,
-        part,
-        field,
+    let step = Step {
+        bin: setup.top_bin,
         tick,
-    )
+        part,
+    };
+    evolve(course, set, forces, out, work, &step, field)
 }
 
 /// A base step: the step of 2^top_bin ticks of all bodies from a tick on, by any forces. What happens is handed out in order.
@@ -161,7 +153,7 @@ pub fn base_step<F: Forces, O: KickOut>(
     requires known { IfSome known.old (AreForcesAmong (F.gravity forces.old) set.old) }
     requires early { tick ≤ 2 ^ 40 }
     requires spans { IfSome (option_copied expansion) (λ e. Reaches e (tick + 2 ^ setup.now.top_bin)) }
-    ensures ends { StepEnds (F.gravity forces.old) (F.passes (F.gravity forces.old) (F.fixed forces.old)) (record { bodies = set.old; state = F.state forces.old; took = O.took out.old }) (record { bodies = set.new; state = F.state forces.new; took = O.took out.new }) (whole_step (rules (F.gravity forces.old) (option_copied expansion.entry)) (is_known known.old) set.old tick) tick (tick + 2 ^ setup.now.top_bin) result }
+    ensures ends { BaseStepEnds F.Forces O.KickOut setup.now (option_copied expansion.entry) (is_known known.old) tick result set.old forces.old out.old set.new forces.new out.new }
     ensures conserved { IsConserved set.old set.new [] }
     ensures known { AreKnown result (F.gravity forces.old) set.new known.new }
     ensures cause { StepCause result (O.faults out.old) (O.faults out.new) (O.yes out.old) (O.yes out.new) }
@@ -172,6 +164,7 @@ pub fn base_step<F: Forces, O: KickOut>(
     let before = known.take();
     keep_limits(set.bodies());
     let course = Course {
+        alloc,
         setup,
         expansion,
         total: total_of(set),
@@ -180,7 +173,7 @@ pub fn base_step<F: Forces, O: KickOut>(
         Ok(work) => work,
         Err(_) => return Err(StepEnd::Memory),
     };
-    match step_whole(alloc, &course, set, forces, out, &mut work, before, tick) {
+    match step_whole(&course, set, forces, out, &mut work, before, tick) {
         Ok(field) => {
             *known = Some(field);
             Ok(work.count)

@@ -5,10 +5,12 @@ ghost use Rattle.step_engine.specs.Stands.{IsTimely};
 
 use expansion_table::Expansion;
 use nbody_model::Setup;
+use std::alloc::Global;
 
-/// The setup, the expansion table if there is one, and the momentum of all bodies together.
+/// Where memory comes from, the setup, the expansion table if there is one, and the momentum of all bodies together.
 #[derive(Clone, Copy)]
 pub(crate) struct Course<'a> {
+    pub alloc: Global,
     pub setup: &'a Setup,
     pub expansion: Option<&'a Expansion>,
     pub total: [i128; 3],

@@ -1,12 +1,11 @@
 // The rest of a base step that rests.
 ghost use Rattle.std.specs.Prelude.{◌≡◌, ◌≤◌, ◌+◌, ◌^◌, [], IfSome, None, option_copied};
-ghost use Rattle.nbody_model.specs.States.{StateData, began};
-ghost use Rattle.nbody_model.specs.Continue.{continue};
+ghost use Rattle.nbody_model.specs.States.{began};
 ghost use Rattle.nbody_model.specs.Tables.{Reaches};
-ghost use Rattle.model_laws.specs.Conserved.{IsConserved, start_of};
-ghost use Rattle.step_engine.specs.Stages.{rules};
-ghost use Rattle.step_engine.specs.BaseSteps.{AreKnown, StandsFor, StepCause, StepEnds};
+ghost use Rattle.model_laws.specs.Conserved.{IsConserved};
+ghost use Rattle.step_engine.specs.BaseSteps.{AreKnown, StandsFor, StepCause};
 ghost use Rattle.step_engine.specs.Resumed.{IsInside};
+ghost use Rattle.step_engine.specs.Calls.{RestEnds};
 
 use crate::base::{end_of, total_of};
 use crate::course::Course;
@@ -43,7 +42,7 @@ pub fn finish_step<F: Forces, O: KickOut>(
     requires none { known.old ≡ None }
     requires early { began setup.now.top_bin tick ≤ 2 ^ 40 }
     requires spans { IfSome (option_copied expansion) (λ e. Reaches e (began setup.now.top_bin tick + 2 ^ setup.now.top_bin)) }
-    ensures ends { (σ : StateData) → σ.bodies ≡ set.old → σ.depths ≡ depth.now → σ.tick ≡ tick → StepEnds (F.gravity forces.old) (F.passes (F.gravity forces.old) (F.fixed forces.old)) (record { bodies = set.old; state = F.state forces.old; took = O.took out.old }) (record { bodies = set.new; state = F.state forces.new; took = O.took out.new }) (λ stop. continue (rules (F.gravity forces.old) (option_copied expansion.entry)) stop σ (start_of σ.bodies)) tick (began setup.now.top_bin tick + 2 ^ setup.now.top_bin) result }
+    ensures ends { RestEnds F.Forces O.KickOut setup.now (option_copied expansion.entry) depth.now tick result set.old forces.old out.old set.new forces.new out.new }
     ensures conserved { IsConserved set.old set.new [] }
     ensures known { AreKnown result (F.gravity forces.old) set.new known.new }
     ensures cause { StepCause result (O.faults out.old) (O.faults out.new) (O.yes out.old) (O.yes out.new) }
@@ -53,6 +52,7 @@ pub fn finish_step<F: Forces, O: KickOut>(
 {
     keep_limits(set.bodies());
     let course = Course {
+        alloc,
         setup,
         expansion,
         total: total_of(set),
@@ -62,16 +62,7 @@ pub fn finish_step<F: Forces, O: KickOut>(
         Ok(work) => work,
         Err(_) => return Err(StepEnd::Memory),
     };
-    match rounds(
-        alloc,
-        &course,
-        set,
-        forces,
-        out,
-        &mut work,
-        &pause,
-        setup.top_bin,
-    ) {
+    match rounds(&course, set, forces, out, &mut work, &pause, setup.top_bin) {
         Ok(field) => {
             *known = Some(field);
             Ok(work.count)

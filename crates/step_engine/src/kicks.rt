@@ -1,18 +1,17 @@
 // The kick of a part of the bodies.
-ghost use Rattle.std.specs.Prelude.{◌≡◌, ◌≤◌, ◌==◌, ◌+◌, ◌*◌, ◌^◌, ◌∷◌, [], All, ℕ, length, None, Some, OnErr, OnOk, IfErr, option_copied, if◌then◌else◌};
-ghost use Rattle.fixed_point.specs.Vectors.{IsAtMost};
+ghost use Rattle.std.specs.Prelude.{◌≡◌, ◌≤◌, ◌==◌, ◌+◌, ◌*◌, ◌^◌, None, OnErr, OnOk, IfErr, if◌then◌else◌};
 ghost use Rattle.nbody_model.specs.Bodies.{only};
 ghost use Rattle.nbody_model.specs.Setups.{IsSetup};
-ghost use Rattle.nbody_model.specs.Evolve.{kick};
 ghost use Rattle.model_laws.specs.Still.{SamePlaces};
 ghost use Rattle.kick_drift.specs.Parts.{AreAscending, after_kick, ids_at};
 ghost use Rattle.step_engine.specs.Halts.{refusal_of};
 ghost use Rattle.step_engine.specs.Told.{AreForcesAmong};
-ghost use Rattle.step_engine.specs.Stands.{AreOf, HasEach, IsGiven, IsReady, IsRefusedBy, now, out_after};
-ghost use Rattle.step_engine.specs.Ends.{Makes};
+ghost use Rattle.step_engine.specs.Stands.{AreOf, HasEach, IsGiven, IsReady, IsRefusedBy, out_after};
+ghost use Rattle.step_engine.specs.Calls.{now_by, Kicks};
 
 use crate::course::Course;
 use crate::halt::{Halt, halt_for};
+use crate::steps::Kick;
 use crate::work::Work;
 use crate::{KickOut, StepCount};
 use kick_drift::{KickErr, kick};
@@ -77,43 +76,39 @@ fn count_kick(count: &mut StepCount, pairs: u64, fast_pairs: u64)
     count.interactions += u128::from(pairs) + u128::from(fast_pairs);
 }
 
-/// Kicks the bodies at the places `whole` by h in a bin, by the forces f among them, less the forces among those at the
-/// places `fast`, all found by `_forces`; and hands the kick out.
+/// Makes a kick by the forces f among its bodies, less the forces among its fast ones, all found by `_forces`; and hands it
+/// out.
 pub(crate) fn kick_part<F: Forces, O: KickOut>(
     course: &Course,
     set: &mut BodySet,
     _forces: &F,
     out: &mut O,
     work: &mut Work,
-    bin: u8,
-    whole: &[u32],
+    at: &Kick,
     f: &Field,
-    fast: &[u32],
     quick: &Field,
-    tick: u64,
-    h: u64,
 ) -> Result<(), Halt>
-    requires ready { IsReady course.now.setup.now course.now.total (now set.old (F.gravity _forces.now) (F.fixed _forces.now) (F.state _forces.now) (O.faults out.old) (O.yes out.old) (O.took out.old) work.old) }
-    requires whole { IsGiven (F.gravity _forces.now) set.old whole.now f.now }
-    requires fast { AreOf set.old whole.now fast.now }
-    requires quick { AreForcesAmong (F.gravity _forces.now) (only set.old (ids_at set.old fast.now)) quick.now }
-    requires high { h ≤ 2 ^ 19 }
+    requires ready { IsReady course.now.setup.now course.now.total (now_by F.Forces O.KickOut set.old _forces.now out.old work.old) }
+    requires whole { IsGiven (F.gravity _forces.now) set.old at.now.whole.now f.now }
+    requires fast { AreOf set.old at.now.whole.now at.now.fast.now }
+    requires quick { AreForcesAmong (F.gravity _forces.now) (only set.old (ids_at set.old at.now.fast.now)) quick.now }
+    requires high { at.now.h ≤ 2 ^ 19 }
     requires room { work.old.count.kicks ≤ 2 ^ 40 }
     ensures places { SamePlaces set.new set.old }
-    ensures makes { (n : ℕ) → Makes F.passes n 1 tick tick (λ stop p. kick (record { gravity = F.gravity _forces.now; expansion = option_copied course.now.expansion }) bin (ids_at set.old whole.now) (ids_at set.old fast.now) tick h p) result (now set.old (F.gravity _forces.now) (F.fixed _forces.now) (F.state _forces.now) (O.faults out.old) (O.yes out.old) (O.took out.old) work.old) (now set.new (F.gravity _forces.now) (F.fixed _forces.now) (F.state _forces.now) (O.faults out.new) (O.yes out.new) (O.took out.new) work.new) }
+    ensures makes { Kicks F.Forces O.KickOut course.now at.now result _forces.now set.old out.old work.old set.new out.new work.new }
     ensures same_out { O.fixed out.new ≡ O.fixed out.old }
 {
     keeps_setup(course.setup);
-    match kick_unless_none(set, whole, f, fast, quick, h) {
+    match kick_unless_none(set, at.whole, f, at.fast, quick, at.h) {
         Ok(()) => {}
-        Err(refusal) => return Err(refusal_of(tick, bin, refusal)),
+        Err(refusal) => return Err(refusal_of(at.tick, at.bin, refusal)),
     }
     count_kick(&mut work.count, f.interactions, quick.interactions);
     let entry = Record {
-        tick,
-        bin,
-        whole: whole.len() as u32,
-        fast: fast.len() as u32,
+        tick: at.tick,
+        bin: at.bin,
+        whole: at.whole.len() as u32,
+        fast: at.fast.len() as u32,
         pairs: f.interactions,
         fast_pairs: quick.interactions,
         total: course.total,

@@ -16,6 +16,7 @@ mod pause;
 mod recursion;
 mod rounds;
 mod step_end;
+mod steps;
 mod tells;
 mod work;
 

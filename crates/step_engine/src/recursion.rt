@@ -1,14 +1,12 @@
 // Steps of 2^bin ticks, with finer steps for the bodies that need them.
-ghost use Rattle.std.specs.Prelude.{◌≡◌, ◌≢◌, ◌≤◌, ◌<◌, ◌+◌, ◌-◌, ◌*◌, ◌^◌, [], ◌==◌, ◌&&◌, not, false, ℕ, length, slice_index, IfOk, option_copied};
+ghost use Rattle.std.specs.Prelude.{◌≡◌, ◌≢◌, ◌≤◌, ◌<◌, ◌+◌, ◌^◌, [], ◌==◌, ◌&&◌, not, false, length, slice_index, IfOk, option_copied};
 ghost use Rattle.nbody_model.specs.Bodies.{only};
-ghost use Rattle.nbody_model.specs.Evolve.{evolve, is_empty};
+ghost use Rattle.nbody_model.specs.Evolve.{is_empty};
 ghost use Rattle.kick_drift.specs.Parts.{AreAscending, ids_at};
 ghost use Rattle.model_laws.specs.Laws.{AreBodies};
-ghost use Rattle.step_engine.specs.declared.work.Work.{Work};
 ghost use Rattle.step_engine.specs.Told.{AreForcesAmong};
-ghost use Rattle.step_engine.specs.Stands.{AreOf, IsGiven, IsReady, IsTimely, now};
-ghost use Rattle.step_engine.specs.Ends.{Makes};
-ghost use Rattle.step_engine.specs.Stages.{asks_fast, from_ask, from_kick, inner, rules, two_finer};
+ghost use Rattle.step_engine.specs.Stands.{AreOf, IsGiven, IsReady, IsTimely};
+ghost use Rattle.step_engine.specs.Calls.{now_by, Asks, asks_any, TwoFiner, Between, FromKick, FromAsk, Evolves};
 
 use crate::KickOut;
 use crate::asks::ask;
@@ -18,6 +16,7 @@ use crate::depth::deepen;
 use crate::halt::Halt;
 use crate::kicks::kick_part;
 use crate::parts::fast_places;
+use crate::steps::{Kick, Split, Step};
 use crate::tells::{rest, tell_part};
 use crate::work::Work;
 use nbody_model::{Body, Field, Forces};
@@ -76,7 +75,7 @@ fn ask_fast<F: Forces, O: KickOut>(
 ) -> Result<Field, Halt>
     requires bodies { AreBodies set.now }
     requires fast { AreAscending set.now fast.now }
-    ensures makes { (w : Work) (n tick : ℕ) → Makes F.passes n 0 tick tick (asks_fast (ids_at set.now fast.now)) result (now set.now (F.gravity forces.old) (F.fixed forces.old) (F.state forces.old) (O.faults out.old) (O.yes out.old) (O.took out.old) w) (now set.now (F.gravity forces.new) (F.fixed forces.new) (F.state forces.new) (O.faults out.new) (O.yes out.new) (O.took out.new) w) }
+    ensures makes { Asks F.Forces O.KickOut (asks_any (ids_at set.now fast.now)) result set.now forces.old out.old forces.new out.new }
     ensures forces { IfOk result (AreForcesAmong (F.gravity forces.old) (only set.now (ids_at set.now fast.now))) }
     ensures same_out { O.fixed out.new ≡ O.fixed out.old }
 {
@@ -89,32 +88,32 @@ fn ask_fast<F: Forces, O: KickOut>(
 // The two finer steps of the fast bodies, with the resting point between them.
 #[cycle(step)]
 fn two_finer<F: Forces, O: KickOut>(
-    alloc: Global,
     course: &Course,
     set: &mut BodySet,
     forces: &mut F,
     out: &mut O,
     work: &mut Work,
-    bin: u8,
-    fast: &[u32],
+    split: &Split,
     quick: Field,
-    tick: u64,
 ) -> Result<Field, Halt>
-    requires ready { IsReady course.now.setup.now course.now.total (now set.old (F.gravity forces.old) (F.fixed forces.old) (F.state forces.old) (O.faults out.old) (O.yes out.old) (O.took out.old) work.old) }
-    requires quick { IsGiven (F.gravity forces.old) set.old fast.now quick }
-    requires timely { IsTimely (option_copied course.now.expansion) bin tick 0 }
-    requires finer { course.now.setup.now.low_bin < bin }
+    requires ready { IsReady course.now.setup.now course.now.total (now_by F.Forces O.KickOut set.old forces.old out.old work.old) }
+    requires quick { IsGiven (F.gravity forces.old) set.old split.now.fast.now quick }
+    requires timely { IsTimely (option_copied course.now.expansion) split.now.bin split.now.tick 0 }
+    requires finer { course.now.setup.now.low_bin < split.now.bin }
     requires low { 1 ≤ course.now.setup.now.low_bin }
-    requires room { work.old.count.kicks + 2 ^ (bin + 1) ≤ 2 ^ 40 + 1 }
-    ensures forces { IfOk result (AreForcesAmong (F.gravity forces.old) (only set.new (ids_at set.new fast.now))) }
-    ensures makes { Makes F.passes (bin - 1) (2 ^ (bin + 1) - 4) tick (tick + 2 ^ bin) (two_finer (rules (F.gravity forces.old) (option_copied course.now.expansion)) bin (ids_at set.old fast.now) tick) result (now set.old (F.gravity forces.old) (F.fixed forces.old) (F.state forces.old) (O.faults out.old) (O.yes out.old) (O.took out.old) work.old) (now set.new (F.gravity forces.new) (F.fixed forces.new) (F.state forces.new) (O.faults out.new) (O.yes out.new) (O.took out.new) work.new) }
+    requires room { work.old.count.kicks + 2 ^ (split.now.bin + 1) ≤ 2 ^ 40 + 1 }
+    ensures forces { IfOk result (AreForcesAmong (F.gravity forces.old) (only set.new (ids_at set.new split.now.fast.now))) }
+    ensures makes { TwoFiner F.Forces O.KickOut course.now split.now result set.old forces.old out.old work.old set.new forces.new out.new work.new }
     ensures same_out { O.fixed out.new ≡ O.fixed out.old }
 {
-    let finer = bin - 1;
-    let middle = tick + power(finer);
-    let half = match evolve(
-        alloc, course, set, forces, out, work, finer, fast, quick, tick,
-    ) {
+    let finer = split.bin - 1;
+    let middle = split.tick + power(finer);
+    let first = Step {
+        bin: finer,
+        tick: split.tick,
+        part: split.fast,
+    };
+    let half = match evolve(course, set, forces, out, work, &first, quick) {
         Ok(half) => half,
         Err(e) => return Err(e),
     };
@@ -122,89 +121,84 @@ fn two_finer<F: Forces, O: KickOut>(
         Ok(()) => {}
         Err(e) => return Err(e),
     }
-    evolve(
-        alloc, course, set, forces, out, work, finer, fast, half, middle,
-    )
+    let second = Step {
+        bin: finer,
+        tick: middle,
+        part: split.fast,
+    };
+    evolve(course, set, forces, out, work, &second, half)
 }
 
 // What stands between the two kicks of a step: nothing where no body is fast.
 #[cycle(step)]
 fn between<F: Forces, O: KickOut>(
-    alloc: Global,
     course: &Course,
     set: &mut BodySet,
     forces: &mut F,
     out: &mut O,
     work: &mut Work,
-    bin: u8,
-    fast: &[u32],
+    split: &Split,
     quick: Field,
-    tick: u64,
 ) -> Result<Field, Halt>
-    requires ready { IsReady course.now.setup.now course.now.total (now set.old (F.gravity forces.old) (F.fixed forces.old) (F.state forces.old) (O.faults out.old) (O.yes out.old) (O.took out.old) work.old) }
-    requires quick { IsGiven (F.gravity forces.old) set.old fast.now quick }
-    requires timely { IsTimely (option_copied course.now.expansion) bin tick 0 }
-    requires finer { is_empty fast.now ≡ false → course.now.setup.now.low_bin < bin }
+    requires ready { IsReady course.now.setup.now course.now.total (now_by F.Forces O.KickOut set.old forces.old out.old work.old) }
+    requires quick { IsGiven (F.gravity forces.old) set.old split.now.fast.now quick }
+    requires timely { IsTimely (option_copied course.now.expansion) split.now.bin split.now.tick 0 }
+    requires finer { is_empty split.now.fast.now ≡ false → course.now.setup.now.low_bin < split.now.bin }
     requires low { 1 ≤ course.now.setup.now.low_bin }
-    requires room { work.old.count.kicks + 2 ^ (bin + 1) ≤ 2 ^ 40 + 1 }
-    ensures forces { IfOk result (AreForcesAmong (F.gravity forces.old) (only set.new (ids_at set.new fast.now))) }
-    ensures makes { Makes F.passes bin (2 ^ (bin + 1) - 4) tick (tick + 2 ^ bin) (inner (rules (F.gravity forces.old) (option_copied course.now.expansion)) bin (ids_at set.old fast.now) tick) result (now set.old (F.gravity forces.old) (F.fixed forces.old) (F.state forces.old) (O.faults out.old) (O.yes out.old) (O.took out.old) work.old) (now set.new (F.gravity forces.new) (F.fixed forces.new) (F.state forces.new) (O.faults out.new) (O.yes out.new) (O.took out.new) work.new) }
+    requires room { work.old.count.kicks + 2 ^ (split.now.bin + 1) ≤ 2 ^ 40 + 1 }
+    ensures forces { IfOk result (AreForcesAmong (F.gravity forces.old) (only set.new (ids_at set.new split.now.fast.now))) }
+    ensures makes { Between F.Forces O.KickOut course.now split.now result set.old forces.old out.old work.old set.new forces.new out.new work.new }
     ensures same_out { O.fixed out.new ≡ O.fixed out.old }
 {
-    if is_empty(fast) {
+    if is_empty(split.fast) {
         return Ok(quick);
     }
-    match two_finer(
-        alloc, course, set, forces, out, work, bin, fast, quick, tick,
-    ) {
+    match two_finer(course, set, forces, out, work, split, quick) {
         Ok(quick) => Ok(quick),
-        Err(halt) => Err(deepen(halt, &mut work.depth, fast)),
+        Err(halt) => Err(deepen(halt, &mut work.depth, split.fast)),
     }
 }
 
 // The step of a part all of whose bodies are fast, from its first kick on.
 #[cycle(step)]
 fn step_all<F: Forces, O: KickOut>(
-    alloc: Global,
     course: &Course,
     set: &mut BodySet,
     forces: &mut F,
     out: &mut O,
     work: &mut Work,
-    bin: u8,
-    part: &[u32],
-    fast: &[u32],
+    split: &Split,
     known: Field,
-    tick: u64,
 ) -> Result<Field, Halt>
-    requires ready { IsReady course.now.setup.now course.now.total (now set.old (F.gravity forces.old) (F.fixed forces.old) (F.state forces.old) (O.faults out.old) (O.yes out.old) (O.took out.old) work.old) }
-    requires known { IsGiven (F.gravity forces.old) set.old part.now known }
-    requires fast { AreOf set.old part.now fast.now }
-    requires all { length fast.now ≡ length part.now }
-    requires timely { IsTimely (option_copied course.now.expansion) bin tick 0 }
-    requires finer { is_empty fast.now ≡ false → course.now.setup.now.low_bin < bin }
+    requires ready { IsReady course.now.setup.now course.now.total (now_by F.Forces O.KickOut set.old forces.old out.old work.old) }
+    requires known { IsGiven (F.gravity forces.old) set.old split.now.part.now known }
+    requires fast { AreOf set.old split.now.part.now split.now.fast.now }
+    requires all { length split.now.fast.now ≡ length split.now.part.now }
+    requires timely { IsTimely (option_copied course.now.expansion) split.now.bin split.now.tick 0 }
+    requires finer { is_empty split.now.fast.now ≡ false → course.now.setup.now.low_bin < split.now.bin }
     requires low { 1 ≤ course.now.setup.now.low_bin }
-    requires room { work.old.count.kicks + 2 ^ (bin + 1) ≤ 2 ^ 40 }
-    ensures forces { IfOk result (AreForcesAmong (F.gravity forces.old) (only set.new (ids_at set.new part.now))) }
-    ensures makes { Makes F.passes bin (2 ^ (bin + 1) - 2) tick (tick + 2 ^ bin) (from_kick (rules (F.gravity forces.old) (option_copied course.now.expansion)) bin (ids_at set.old part.now) (ids_at set.old fast.now) tick) result (now set.old (F.gravity forces.old) (F.fixed forces.old) (F.state forces.old) (O.faults out.old) (O.yes out.old) (O.took out.old) work.old) (now set.new (F.gravity forces.new) (F.fixed forces.new) (F.state forces.new) (O.faults out.new) (O.yes out.new) (O.took out.new) work.new) }
+    requires room { work.old.count.kicks + 2 ^ (split.now.bin + 1) ≤ 2 ^ 40 }
+    ensures forces { IfOk result (AreForcesAmong (F.gravity forces.old) (only set.new (ids_at set.new split.now.part.now))) }
+    ensures makes { FromKick F.Forces O.KickOut course.now split.now result set.old forces.old out.old work.old set.new forces.new out.new work.new }
     ensures same_out { O.fixed out.new ≡ O.fixed out.old }
 {
-    let h = first_factor(course, bin, tick);
-    match kick_part(
-        course, set, forces, out, work, bin, part, &known, fast, &known, tick, h,
-    ) {
+    let h = first_factor(course, split.bin, split.tick);
+    let at = Kick {
+        bin: split.bin,
+        tick: split.tick,
+        h,
+        whole: split.part,
+        fast: split.fast,
+    };
+    match kick_part(course, set, forces, out, work, &at, &known, &known) {
         Ok(()) => {}
         Err(e) => return Err(e),
     }
-    let quick = match between(
-        alloc, course, set, forces, out, work, bin, fast, known, tick,
-    ) {
+    let quick = match between(course, set, forces, out, work, split, known) {
         Ok(quick) => quick,
         Err(e) => return Err(e),
     };
-    match close_all(
-        course, set, forces, out, work, bin, part, fast, &quick, tick,
-    ) {
+    match close_all(course, set, forces, out, work, split, &quick) {
         Ok(()) => Ok(quick),
         Err(e) => Err(e),
     }
@@ -213,92 +207,85 @@ fn step_all<F: Forces, O: KickOut>(
 // The step of a part some of whose bodies aren't fast, from the forces among its fast ones on.
 #[cycle(step)]
 fn step_some<F: Forces, O: KickOut>(
-    alloc: Global,
     course: &Course,
     set: &mut BodySet,
     forces: &mut F,
     out: &mut O,
     work: &mut Work,
-    bin: u8,
-    part: &[u32],
-    fast: &[u32],
+    split: &Split,
     known: &Field,
-    tick: u64,
 ) -> Result<Field, Halt>
-    requires ready { IsReady course.now.setup.now course.now.total (now set.old (F.gravity forces.old) (F.fixed forces.old) (F.state forces.old) (O.faults out.old) (O.yes out.old) (O.took out.old) work.old) }
-    requires known { IsGiven (F.gravity forces.old) set.old part.now known.now }
-    requires fast { AreOf set.old part.now fast.now }
-    requires some { length fast.now ≢ length part.now }
-    requires timely { IsTimely (option_copied course.now.expansion) bin tick 0 }
-    requires finer { is_empty fast.now ≡ false → course.now.setup.now.low_bin < bin }
+    requires ready { IsReady course.now.setup.now course.now.total (now_by F.Forces O.KickOut set.old forces.old out.old work.old) }
+    requires known { IsGiven (F.gravity forces.old) set.old split.now.part.now known.now }
+    requires fast { AreOf set.old split.now.part.now split.now.fast.now }
+    requires some { length split.now.fast.now ≢ length split.now.part.now }
+    requires timely { IsTimely (option_copied course.now.expansion) split.now.bin split.now.tick 0 }
+    requires finer { is_empty split.now.fast.now ≡ false → course.now.setup.now.low_bin < split.now.bin }
     requires low { 1 ≤ course.now.setup.now.low_bin }
-    requires room { work.old.count.kicks + 2 ^ (bin + 1) ≤ 2 ^ 40 }
-    ensures forces { IfOk result (AreForcesAmong (F.gravity forces.old) (only set.new (ids_at set.new part.now))) }
-    ensures makes { Makes F.passes bin (2 ^ (bin + 1) - 2) tick (tick + 2 ^ bin) (from_ask (rules (F.gravity forces.old) (option_copied course.now.expansion)) bin (ids_at set.old part.now) (ids_at set.old fast.now) tick) result (now set.old (F.gravity forces.old) (F.fixed forces.old) (F.state forces.old) (O.faults out.old) (O.yes out.old) (O.took out.old) work.old) (now set.new (F.gravity forces.new) (F.fixed forces.new) (F.state forces.new) (O.faults out.new) (O.yes out.new) (O.took out.new) work.new) }
+    requires room { work.old.count.kicks + 2 ^ (split.now.bin + 1) ≤ 2 ^ 40 }
+    ensures forces { IfOk result (AreForcesAmong (F.gravity forces.old) (only set.new (ids_at set.new split.now.part.now))) }
+    ensures makes { FromAsk F.Forces O.KickOut course.now split.now result set.old forces.old out.old work.old set.new forces.new out.new work.new }
     ensures same_out { O.fixed out.new ≡ O.fixed out.old }
 {
-    let quick = match ask_fast(alloc, set, fast, &mut work.bodies, forces, out) {
+    let quick = match ask_fast(course.alloc, set, split.fast, &mut work.bodies, forces, out) {
         Ok(quick) => quick,
         Err(e) => return Err(e),
     };
-    let h = first_factor(course, bin, tick);
-    match kick_part(
-        course, set, forces, out, work, bin, part, known, fast, &quick, tick, h,
-    ) {
+    let h = first_factor(course, split.bin, split.tick);
+    let at = Kick {
+        bin: split.bin,
+        tick: split.tick,
+        h,
+        whole: split.part,
+        fast: split.fast,
+    };
+    match kick_part(course, set, forces, out, work, &at, known, &quick) {
         Ok(()) => {}
         Err(e) => return Err(e),
     }
-    let quick = match between(
-        alloc, course, set, forces, out, work, bin, fast, quick, tick,
-    ) {
+    let quick = match between(course, set, forces, out, work, split, quick) {
         Ok(quick) => quick,
         Err(e) => return Err(e),
     };
-    close_some(
-        alloc, course, set, forces, out, work, bin, part, fast, &quick, tick,
-    )
+    close_some(course, set, forces, out, work, split, &quick)
 }
 
-/// The step of 2^bin ticks of the bodies at the places `part` from a tick on, by the forces among them. The answer are the
-/// forces among them at the new positions.
+/// Makes a step of 2^bin ticks by the forces among its bodies. The answer are the forces among them at the new positions.
 #[cycle(step)]
 pub(crate) fn evolve<F: Forces, O: KickOut>(
-    alloc: Global,
     course: &Course,
     set: &mut BodySet,
     forces: &mut F,
     out: &mut O,
     work: &mut Work,
-    bin: u8,
-    part: &[u32],
+    step: &Step,
     known: Field,
-    tick: u64,
 ) -> Result<Field, Halt>
-    requires ready { IsReady course.now.setup.now course.now.total (now set.old (F.gravity forces.old) (F.fixed forces.old) (F.state forces.old) (O.faults out.old) (O.yes out.old) (O.took out.old) work.old) }
-    requires known { IsGiven (F.gravity forces.old) set.old part.now known }
-    requires timely { IsTimely (option_copied course.now.expansion) bin tick work.old.count.kicks }
+    requires ready { IsReady course.now.setup.now course.now.total (now_by F.Forces O.KickOut set.old forces.old out.old work.old) }
+    requires known { IsGiven (F.gravity forces.old) set.old step.now.part.now known }
+    requires timely { IsTimely (option_copied course.now.expansion) step.now.bin step.now.tick work.old.count.kicks }
     requires low { 1 ≤ course.now.setup.now.low_bin }
-    requires high { course.now.setup.now.low_bin ≤ bin }
-    ensures forces { IfOk result (AreForcesAmong (F.gravity forces.old) (only set.new (ids_at set.new part.now))) }
-    ensures makes { Makes F.passes bin (2 ^ (bin + 1) - 2) tick (tick + 2 ^ bin) (λ stop p. evolve (rules (F.gravity forces.old) (option_copied course.now.expansion)) stop bin (ids_at set.old part.now) tick p) result (now set.old (F.gravity forces.old) (F.fixed forces.old) (F.state forces.old) (O.faults out.old) (O.yes out.old) (O.took out.old) work.old) (now set.new (F.gravity forces.new) (F.fixed forces.new) (F.state forces.new) (O.faults out.new) (O.yes out.new) (O.took out.new) work.new) }
+    requires high { course.now.setup.now.low_bin ≤ step.now.bin }
+    ensures forces { IfOk result (AreForcesAmong (F.gravity forces.old) (only set.new (ids_at set.new step.now.part.now))) }
+    ensures makes { Evolves F.Forces O.KickOut course.now step.now result set.old forces.old out.old work.old set.new forces.new out.new work.new }
     ensures same_out { O.fixed out.new ≡ O.fixed out.old }
 {
     let found = match fast_places(
-        alloc,
+        course.alloc,
         course.setup,
         set,
-        part,
+        step.part,
         &known,
-        bin,
+        step.bin,
         &mut work.bodies,
     ) {
         Ok(found) => found,
         Err(_) => return Err(Halt::Memory),
     };
     let fast = found.as_slice();
-    if stops(course, bin, fast) {
+    if stops(course, step.bin, fast) {
         return Err(Halt::StepRange {
-            tick,
+            tick: step.tick,
             id: first_id(set, fast),
         });
     }
@@ -306,12 +293,15 @@ pub(crate) fn evolve<F: Forces, O: KickOut>(
         Ok(()) => {}
         Err(e) => return Err(e),
     }
+    let part = step.part;
+    let split = Split {
+        bin: step.bin,
+        tick: step.tick,
+        part,
+        fast,
+    };
     if fast.len() == part.len() {
-        return step_all(
-            alloc, course, set, forces, out, work, bin, part, fast, known, tick,
-        );
+        return step_all(course, set, forces, out, work, &split, known);
     }
-    step_some(
-        alloc, course, set, forces, out, work, bin, part, fast, &known, tick,
-    )
+    step_some(course, set, forces, out, work, &split, &known)
 }

@@ -1,13 +1,8 @@
 // What is told in a step beside forces and kicks.
-ghost use Rattle.std.specs.Prelude.{◌≡◌, ◌≤◌, ◌-◌, ◌+◌, [], ℕ, List};
-ghost use Rattle.nbody_model.specs.Bodies.{BodyData};
-ghost use Rattle.nbody_model.specs.Tables.{Gravity};
-ghost use Rattle.nbody_model.specs.Evolve.{Binned, Going, depths_of, rest, tell};
+ghost use Rattle.std.specs.Prelude.{◌≡◌, ◌≤◌};
 ghost use Rattle.model_laws.specs.Laws.{AreBodies};
 ghost use Rattle.kick_drift.specs.Parts.{AreAscending, ids_at};
-ghost use Rattle.step_engine.specs.declared.work.Work.{Work};
-ghost use Rattle.step_engine.specs.Stands.{now};
-ghost use Rattle.step_engine.specs.Ends.{Makes};
+ghost use Rattle.step_engine.specs.Calls.{TellsPart, TellsRest};
 
 use crate::KickOut;
 use crate::halt::{Halt, halt_for};
@@ -24,7 +19,7 @@ pub(crate) fn tell_part<F: Forces, O: KickOut>(
 ) -> Result<(), Halt>
     requires bodies { AreBodies set.now }
     requires fast { AreAscending set.now fast.now }
-    ensures makes { (g : Gravity) (fixed state : List ℕ) (w : Work) (n tick : ℕ) → Makes F.passes n 0 tick tick (λ stop p. Going (tell (Binned (ids_at set.now fast.now)) p)) result (now set.now g fixed state (O.faults out.old) (O.yes out.old) (O.took out.old) w) (now set.now g fixed state (O.faults out.new) (O.yes out.new) (O.took out.new) w) }
+    ensures makes { TellsPart F.Forces O.KickOut (ids_at set.now fast.now) result set.now out.old out.new }
     ensures same_out { O.fixed out.new ≡ O.fixed out.old }
 {
     match gather_ids(set, fast, room) {
@@ -40,7 +35,7 @@ pub(crate) fn tell_part<F: Forces, O: KickOut>(
 /// A resting point: the step goes on, or rests there.
 pub(crate) fn rest<F: Forces, O: KickOut>(out: &mut O, tick: u64) -> Result<(), Halt>
     requires { 1 ≤ tick }
-    ensures makes { (B : List BodyData) (g : Gravity) (fixed state : List ℕ) (w : Work) (n : ℕ) → AreBodies B → w.depth.items ≡ depths_of [] B → Makes F.passes n 0 (tick - 1) (tick + 1) (λ stop p. rest stop tick p) result (now B g fixed state (O.faults out.old) (O.yes out.old) (O.took out.old) w) (now B g fixed state (O.faults out.new) (O.yes out.new) (O.took out.new) w) }
+    ensures makes { TellsRest F.Forces O.KickOut tick result out.old out.new }
     ensures same_out { O.fixed out.new ≡ O.fixed out.old }
 {
     if out.rested(tick) {

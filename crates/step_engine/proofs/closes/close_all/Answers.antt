@@ -16,8 +16,8 @@ returns-clause-forces g c =
     let gr = g.F.Forces.gravity c.args.forces.now in
     let B = c.args.set.now in
     let S = c.kick_part.new.set in
-    let named : ids_at S c.args.part.now ≡ ids_at B c.args.part.now = same_places B S c.args.part.now (c.kick_part.ensures.makes 0).conserved in
-    forces_still gr (ids_at S c.args.part.now) c.args.quick.now B S c.kick_part.ensures.places
+    let named : ids_at S c.args.split.now.part.now ≡ ids_at B c.args.split.now.part.now = same_places B S c.args.split.now.part.now (c.kick_part.ensures.makes 0).conserved in
+    forces_still gr (ids_at S c.args.split.now.part.now) c.args.quick.now B S c.kick_part.ensures.places
     (subst (λ P. AreForcesAmong gr (only B P) c.args.quick.now) (c.requires.fast.all c.requires.all ∙ sym named) c.requires.quick)
 
 pub returns-clause-makes : goal.returns-clause-makes
@@ -25,10 +25,10 @@ returns-clause-makes g c = λ n.
     let gr = g.F.Forces.gravity c.args.forces.now in
     let e = option_copied c.args.course.now.expansion in
     let r : Rules = record { gravity = gr; expansion = e } in
-    let bin = c.args.bin in
-    let tick = c.args.tick in
-    let P = ids_at c.args.set.now c.args.part.now in
-    let F = ids_at c.args.set.now c.args.fast.now in
+    let bin = c.args.split.now.bin in
+    let tick = c.args.split.now.tick in
+    let P = ids_at c.args.set.now c.args.split.now.part.now in
+    let F = ids_at c.args.set.now c.args.split.now.fast.now in
     let a = now c.args.set.now gr (g.F.Forces.fixed c.args.forces.now) (g.F.Forces.state c.args.forces.now) (g.O.KickOut.faults c.args.out.now) (g.O.KickOut.yes c.args.out.now) (g.O.KickOut.took c.args.out.now) c.args.work.now in
     let z = now c.kick_part.new.set gr (g.F.Forces.fixed c.args.forces.now) (g.F.Forces.state c.args.forces.now) (g.O.KickOut.faults c.kick_part.new.out) (g.O.KickOut.yes c.kick_part.new.out) (g.O.KickOut.took c.kick_part.new.out) c.kick_part.new.work in
     let h : ℕ = kick_factor e (tick + 2 ^ (bin - 1)) (tick + 2 ^ bin) in

@@ -25,17 +25,17 @@ use Rattle.step_engine.proofs.kicks.kick_part.Goals as goal
 
 pub kick_unless_none-requires-clause-slow : goal.kick_unless_none-requires-clause-slow
 kick_unless_none-requires-clause-slow g c =
-    has_each (g.F.Forces.gravity c.args._forces.now) c.args.set.now c.args.whole.now c.args.f.now (subst IsSetup (sym c.requires.ready.setup) c.keeps_setup.ensures) c.requires.ready.table c.requires.ready.bodies c.requires.ready.kinds c.requires.whole.places c.requires.whole.forces
+    has_each (g.F.Forces.gravity c.args._forces.now) c.args.set.now c.args.at.now.whole.now c.args.f.now (subst IsSetup (sym c.requires.ready.setup) c.keeps_setup.ensures) c.requires.ready.table c.requires.ready.bodies c.requires.ready.kinds c.requires.whole.places c.requires.whole.forces
 
 pub kick_unless_none-requires-clause-quick : goal.kick_unless_none-requires-clause-quick
 kick_unless_none-requires-clause-quick g c =
-    has_each (g.F.Forces.gravity c.args._forces.now) c.args.set.now c.args.fast.now c.args.quick.now (subst IsSetup (sym c.requires.ready.setup) c.keeps_setup.ensures) c.requires.ready.table c.requires.ready.bodies c.requires.ready.kinds c.requires.fast.places c.requires.quick
+    has_each (g.F.Forces.gravity c.args._forces.now) c.args.set.now c.args.at.now.fast.now c.args.quick.now (subst IsSetup (sym c.requires.ready.setup) c.keeps_setup.ensures) c.requires.ready.table c.requires.ready.bodies c.requires.ready.kinds c.requires.fast.places c.requires.quick
 
 pub overflow_cast-entry : goal.overflow_cast-entry
-overflow_cast-entry g c = let few = places_few c.args.set.now c.args.whole.now c.requires.ready.bodies c.requires.whole.places in omega (arith, few)
+overflow_cast-entry g c = let few = places_few c.args.set.now c.args.at.now.whole.now c.requires.ready.bodies c.requires.whole.places in omega (arith, few)
 
 pub overflow_cast-entry-2 : goal.overflow_cast-entry-2
-overflow_cast-entry-2 g c = let few = places_few c.args.set.now c.args.fast.now c.requires.ready.bodies c.requires.fast.places in omega (arith, few)
+overflow_cast-entry-2 g c = let few = places_few c.args.set.now c.args.at.now.fast.now c.requires.ready.bodies c.requires.fast.places in omega (arith, few)
 
 -- the refusal of the code is that of the definition
 refused_out : (gr : Gravity) (h : ℕ) (whole fast : List ℕ) (f q : FieldData) (B : List BodyData) (id axis : ℕ) → AreBodies B → AreAscending B whole → AreAscending B fast → AreForcesAmong gr (only B (ids_at B whole)) f → AreForcesAmong gr (only B (ids_at B fast)) q →
@@ -54,7 +54,7 @@ returns-in-Err-clause-makes g c = λ n.
     let r : Rules = record { gravity = g.F.Forces.gravity c.args._forces.now; expansion = option_copied c.args.course.now.expansion } in
     let a = now c.args.set.now (g.F.Forces.gravity c.args._forces.now) (g.F.Forces.fixed c.args._forces.now) (g.F.Forces.state c.args._forces.now) (g.O.KickOut.faults c.args.out.now) (g.O.KickOut.yes c.args.out.now) (g.O.KickOut.took c.args.out.now) c.args.work.now in
     rw c.refusal_of.ensures
-    (refused g.F.Forces.passes n c.args.tick r c.args.course.now.setup.now c.args.course.now.total c.args.bin c.args.whole.now c.args.fast.now c.args.f.now c.args.quick.now c.args.h c.in-Err.refusal a c.kick_unless_none.new.set
+    (refused g.F.Forces.passes n c.args.at.now.tick r c.args.course.now.setup.now c.args.course.now.total c.args.at.now.bin c.args.at.now.whole.now c.args.at.now.fast.now c.args.f.now c.args.quick.now c.args.at.now.h c.in-Err.refusal a c.kick_unless_none.new.set
     c.requires.ready refl c.requires.whole.places c.requires.fast.places c.requires.whole.forces c.requires.quick c.in-Err.ensures.refused c.in-Err.ensures.unchanged)
 
 still_made : (gr : Gravity) (h : ℕ) (whole fast : List ℕ) (B S : List BodyData) → S ≡ kicked_bodies h (ids_at B whole) (change gr (ids_at B whole) (ids_at B fast) B) B → SamePlaces S B
@@ -80,17 +80,17 @@ returns-in-Ok-kicked-clause-makes g c = λ n.
     let r : Rules = record { gravity = gr; expansion = option_copied c.args.course.now.expansion } in
     let B = c.args.set.now in
     let S = c.kick_unless_none.new.set in
-    let whole = c.args.whole.now in
-    let fast = c.args.fast.now in
+    let whole = c.args.at.now.whole.now in
+    let fast = c.args.at.now.fast.now in
     let a = now B gr (g.F.Forces.fixed c.args._forces.now) (g.F.Forces.state c.args._forces.now) (g.O.KickOut.faults c.args.out.now) (g.O.KickOut.yes c.args.out.now) (g.O.KickOut.took c.args.out.now) c.args.work.now in
     let z = now S gr (g.F.Forces.fixed c.args._forces.now) (g.F.Forces.state c.args._forces.now) (g.O.KickOut.faults c.kicked.new.self) (g.O.KickOut.yes c.kicked.new.self) (g.O.KickOut.took c.kicked.new.self) (record c.args.work.now { count = c.count_kick.new.count }) in
-    let entry : Record = record { tick = c.args.tick; bin = c.args.bin; whole = length whole; fast = length fast; pairs = c.f.inside.interactions; fast_pairs = c.quick.inside.interactions; total = c.args.course.now.total } in
-    let made = made_is gr c.args.h whole fast c.args.f.now c.args.quick.now B S c.requires.ready.bodies c.requires.whole.places c.requires.fast.places c.requires.whole.forces c.requires.quick c.in-Ok.ensures.kicked in
-    let kept : IsConserved B S [] = subst (λ C. IsConserved B C []) (sym made) (kick_conserves gr c.args.h (ids_at B whole) (ids_at B fast) B c.requires.ready.bodies c.requires.fast.part) in
+    let entry : Record = record { tick = c.args.at.now.tick; bin = c.args.at.now.bin; whole = length whole; fast = length fast; pairs = c.f.inside.interactions; fast_pairs = c.quick.inside.interactions; total = c.args.course.now.total } in
+    let made = made_is gr c.args.at.now.h whole fast c.args.f.now c.args.quick.now B S c.requires.ready.bodies c.requires.whole.places c.requires.fast.places c.requires.whole.forces c.requires.quick c.in-Ok.ensures.kicked in
+    let kept : IsConserved B S [] = subst (λ C. IsConserved B C []) (sym made) (kick_conserves gr c.args.at.now.h (ids_at B whole) (ids_at B fast) B c.requires.ready.bodies c.requires.fast.part) in
     let l : Leads 1 a z = record { gravity = refl; fixed = refl; conserved = kept; few = omega (arith, c.count_kick.ensures.kicks); counted = λ h. c.count_kick.ensures.counted; yes = c.in-Ok-kicked.ensures.same_yes; depth = refl } in
-    kick_made g.F.Forces.passes (Unit {0}) n c.args.tick r c.args.bin (ids_at B whole) (ids_at B fast) c.args.tick c.args.h entry tt a z l refl refl made
-    (out_none gr c.args.h whole fast c.args.f.now c.args.quick.now B S c.requires.ready.bodies c.requires.whole.places c.requires.fast.places c.requires.whole.forces c.requires.quick made c.in-Ok.ensures.in_range)
-    (entry_is r c.args.tick c.args.bin whole fast c.args.f.now c.args.quick.now c.f.inside.interactions c.quick.inside.interactions c.args.course.now.total B S (ap (λ (x : FieldData). x.interactions) c.f.view_is) (ap (λ (x : FieldData). x.interactions) c.quick.view_is) c.requires.ready.bodies c.requires.whole.places c.requires.fast.places c.requires.whole.forces c.requires.quick c.requires.ready.total kept)
+    kick_made g.F.Forces.passes (Unit {0}) n c.args.at.now.tick r c.args.at.now.bin (ids_at B whole) (ids_at B fast) c.args.at.now.tick c.args.at.now.h entry tt a z l refl refl made
+    (out_none gr c.args.at.now.h whole fast c.args.f.now c.args.quick.now B S c.requires.ready.bodies c.requires.whole.places c.requires.fast.places c.requires.whole.forces c.requires.quick made c.in-Ok.ensures.in_range)
+    (entry_is r c.args.at.now.tick c.args.at.now.bin whole fast c.args.f.now c.args.quick.now c.f.inside.interactions c.quick.inside.interactions c.args.course.now.total B S (ap (λ (x : FieldData). x.interactions) c.f.view_is) (ap (λ (x : FieldData). x.interactions) c.quick.view_is) c.requires.ready.bodies c.requires.whole.places c.requires.fast.places c.requires.whole.forces c.requires.quick c.requires.ready.total kept)
     c.in-Ok-kicked.ensures.ok c.count_kick.ensures.kicks c.count_kick.ensures.interactions (c.in-Ok-kicked.ensures.cause.kept refl)
 
 pub returns-in-Err-kicked-clause-makes : goal.returns-in-Err-kicked-clause-makes
@@ -99,18 +99,18 @@ returns-in-Err-kicked-clause-makes g c = λ n.
     let r : Rules = record { gravity = gr; expansion = option_copied c.args.course.now.expansion } in
     let B = c.args.set.now in
     let S = c.kick_unless_none.new.set in
-    let whole = c.args.whole.now in
-    let fast = c.args.fast.now in
+    let whole = c.args.at.now.whole.now in
+    let fast = c.args.at.now.fast.now in
     let a = now B gr (g.F.Forces.fixed c.args._forces.now) (g.F.Forces.state c.args._forces.now) (g.O.KickOut.faults c.args.out.now) (g.O.KickOut.yes c.args.out.now) (g.O.KickOut.took c.args.out.now) c.args.work.now in
     let z = now S gr (g.F.Forces.fixed c.args._forces.now) (g.F.Forces.state c.args._forces.now) (g.O.KickOut.faults c.kicked.new.self) (g.O.KickOut.yes c.kicked.new.self) (g.O.KickOut.took c.kicked.new.self) (record c.args.work.now { count = c.count_kick.new.count }) in
-    let entry : Record = record { tick = c.args.tick; bin = c.args.bin; whole = length whole; fast = length fast; pairs = c.f.inside.interactions; fast_pairs = c.quick.inside.interactions; total = c.args.course.now.total } in
-    let made = made_is gr c.args.h whole fast c.args.f.now c.args.quick.now B S c.requires.ready.bodies c.requires.whole.places c.requires.fast.places c.requires.whole.forces c.requires.quick c.in-Ok.ensures.kicked in
-    let kept : IsConserved B S [] = subst (λ C. IsConserved B C []) (sym made) (kick_conserves gr c.args.h (ids_at B whole) (ids_at B fast) B c.requires.ready.bodies c.requires.fast.part) in
+    let entry : Record = record { tick = c.args.at.now.tick; bin = c.args.at.now.bin; whole = length whole; fast = length fast; pairs = c.f.inside.interactions; fast_pairs = c.quick.inside.interactions; total = c.args.course.now.total } in
+    let made = made_is gr c.args.at.now.h whole fast c.args.f.now c.args.quick.now B S c.requires.ready.bodies c.requires.whole.places c.requires.fast.places c.requires.whole.forces c.requires.quick c.in-Ok.ensures.kicked in
+    let kept : IsConserved B S [] = subst (λ C. IsConserved B C []) (sym made) (kick_conserves gr c.args.at.now.h (ids_at B whole) (ids_at B fast) B c.requires.ready.bodies c.requires.fast.part) in
     let l : Leads 1 a z = record { gravity = refl; fixed = refl; conserved = kept; few = omega (arith, c.count_kick.ensures.kicks); counted = λ h. c.count_kick.ensures.counted; yes = c.in-Err-kicked.ensures.same_yes; depth = refl } in
     rw c.halt_for.ensures
-    (kick_broken g.F.Forces.passes (Unit {0}) n c.args.tick r c.args.bin (ids_at B whole) (ids_at B fast) c.args.tick c.args.h entry c.in-Err-kicked.e a z l refl refl made
-    (out_none gr c.args.h whole fast c.args.f.now c.args.quick.now B S c.requires.ready.bodies c.requires.whole.places c.requires.fast.places c.requires.whole.forces c.requires.quick made c.in-Ok.ensures.in_range)
-    (entry_is r c.args.tick c.args.bin whole fast c.args.f.now c.args.quick.now c.f.inside.interactions c.quick.inside.interactions c.args.course.now.total B S (ap (λ (x : FieldData). x.interactions) c.f.view_is) (ap (λ (x : FieldData). x.interactions) c.quick.view_is) c.requires.ready.bodies c.requires.whole.places c.requires.fast.places c.requires.whole.forces c.requires.quick c.requires.ready.total kept)
+    (kick_broken g.F.Forces.passes (Unit {0}) n c.args.at.now.tick r c.args.at.now.bin (ids_at B whole) (ids_at B fast) c.args.at.now.tick c.args.at.now.h entry c.in-Err-kicked.e a z l refl refl made
+    (out_none gr c.args.at.now.h whole fast c.args.f.now c.args.quick.now B S c.requires.ready.bodies c.requires.whole.places c.requires.fast.places c.requires.whole.forces c.requires.quick made c.in-Ok.ensures.in_range)
+    (entry_is r c.args.at.now.tick c.args.at.now.bin whole fast c.args.f.now c.args.quick.now c.f.inside.interactions c.quick.inside.interactions c.args.course.now.total B S (ap (λ (x : FieldData). x.interactions) c.f.view_is) (ap (λ (x : FieldData). x.interactions) c.quick.view_is) c.requires.ready.bodies c.requires.whole.places c.requires.fast.places c.requires.whole.forces c.requires.quick c.requires.ready.total kept)
     c.in-Err-kicked.ensures.err c.in-Err-kicked.ensures.cause)
 
 pub returns-in-Err-clause-places : goal.returns-in-Err-clause-places
@@ -119,11 +119,11 @@ returns-in-Err-clause-places g c = ap (map still) c.in-Err.ensures.unchanged
 pub returns-in-Ok-kicked-clause-places : goal.returns-in-Ok-kicked-clause-places
 returns-in-Ok-kicked-clause-places g c =
     let gr = g.F.Forces.gravity c.args._forces.now in
-    still_made gr c.args.h c.args.whole.now c.args.fast.now c.args.set.now c.kick_unless_none.new.set
-    (made_is gr c.args.h c.args.whole.now c.args.fast.now c.args.f.now c.args.quick.now c.args.set.now c.kick_unless_none.new.set c.requires.ready.bodies c.requires.whole.places c.requires.fast.places c.requires.whole.forces c.requires.quick c.in-Ok.ensures.kicked)
+    still_made gr c.args.at.now.h c.args.at.now.whole.now c.args.at.now.fast.now c.args.set.now c.kick_unless_none.new.set
+    (made_is gr c.args.at.now.h c.args.at.now.whole.now c.args.at.now.fast.now c.args.f.now c.args.quick.now c.args.set.now c.kick_unless_none.new.set c.requires.ready.bodies c.requires.whole.places c.requires.fast.places c.requires.whole.forces c.requires.quick c.in-Ok.ensures.kicked)
 
 pub returns-in-Err-kicked-clause-places : goal.returns-in-Err-kicked-clause-places
 returns-in-Err-kicked-clause-places g c =
     let gr = g.F.Forces.gravity c.args._forces.now in
-    still_made gr c.args.h c.args.whole.now c.args.fast.now c.args.set.now c.kick_unless_none.new.set
-    (made_is gr c.args.h c.args.whole.now c.args.fast.now c.args.f.now c.args.quick.now c.args.set.now c.kick_unless_none.new.set c.requires.ready.bodies c.requires.whole.places c.requires.fast.places c.requires.whole.forces c.requires.quick c.in-Ok.ensures.kicked)
+    still_made gr c.args.at.now.h c.args.at.now.whole.now c.args.at.now.fast.now c.args.set.now c.kick_unless_none.new.set
+    (made_is gr c.args.at.now.h c.args.at.now.whole.now c.args.at.now.fast.now c.args.f.now c.args.quick.now c.args.set.now c.kick_unless_none.new.set c.requires.ready.bodies c.requires.whole.places c.requires.fast.places c.requires.whole.forces c.requires.quick c.in-Ok.ensures.kicked)

@@ -1,7 +1,7 @@
 use Rattle.std.proofs.Common.{◌≡◌, ◌≤◌, ◌-◌, [], ◌∷◌, length, ap, sym, ◌∙◌, subst, arith}
 use Rattle.std.specs.List.{AllByRecursion}
 use Rattle.nbody_model.specs.States.{low_zeros}
-use Rattle.step_engine.proofs.Ticks.{low_of}
+use Rattle.model_laws.proofs.Rests.{low_of}
 use Rattle.step_engine.proofs.tests.finish.Goals as goal
 
 pub finish_step-requires-clause-rest : goal.finish_step-requires-clause-rest
