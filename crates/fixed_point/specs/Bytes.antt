@@ -1,5 +1,5 @@
 -- Numbers as bytes, the lowest byte first, and blocks framed by their length.
-use Rattle.std.specs.Prelude.{ℕ, ◌+◌, ℤ, List, [], ◌∷◌, ◌++◌, length, slice_index}
+use Rattle.std.specs.Prelude.{ℕ, ◌+◌, ℤ, pos, List, [], ◌∷◌, ◌++◌, length, slice_index, get_or}
 use Rattle.std.specs.Int.{w32, w64, w128, to_le_bytes, from_le_bytes, cast_unsigned, cast_signed}
 
 -- a number below 2^32 in four bytes, below 2^64 in eight, below 2^128 in sixteen
@@ -15,6 +15,10 @@ bytes128 n = to_le_bytes w128 n
 -- a signed number in eight bytes, as its two's complement
 abbrev pub signed_bytes64 : ℤ → List ℕ
 signed_bytes64 z = bytes64 (cast_unsigned w64 z)
+
+-- three signed numbers behind a list, in eight bytes each
+abbrev pub with_signed : List ℕ → List ℤ → List ℕ
+with_signed out zs = out ++ signed_bytes64 (get_or zs 0 (pos 0)) ++ signed_bytes64 (get_or zs 1 (pos 0)) ++ signed_bytes64 (get_or zs 2 (pos 0))
 
 -- a block: its name between frames of 8, then its contents between frames of their length
 unfoldable pub framed : List ℕ → List ℕ → List ℕ

@@ -1,6 +1,6 @@
 // Numbers in bytes, the lowest byte first.
-ghost use Rattle.std.specs.Prelude.{◌≡◌, ◌+◌, ◌++◌, ◌≤◌, length, get_or, pos, slice_index, OnOk};
-ghost use Rattle.fixed_point.specs.Bytes.{bytes32, bytes64, bytes128, signed_bytes64, word32_at, word64_at, signed64_at};
+ghost use Rattle.std.specs.Prelude.{◌≡◌, ◌+◌, ◌++◌, ◌≤◌, length, slice_index, OnOk};
+ghost use Rattle.fixed_point.specs.Bytes.{bytes32, bytes64, bytes128, with_signed, word32_at, word64_at, signed64_at};
 
 use crate::Memory;
 
@@ -83,8 +83,7 @@ pub fn push_three_words(out: &mut Vec<u8>, numbers: [u32; 3]) -> Result<(), Memo
 
 /// Appends three signed numbers, as those of a momentum, in eight bytes each, as their two's complement.
 pub fn push_three_signed(out: &mut Vec<u8>, numbers: [i64; 3]) -> Result<(), Memory>
-    ensures { OnOk result (out.new.items ≡ out.old.items
-        ++ signed_bytes64 (get_or numbers 0 (pos 0)) ++ signed_bytes64 (get_or numbers 1 (pos 0)) ++ signed_bytes64 (get_or numbers 2 (pos 0))) }
+    ensures { OnOk result (out.new.items ≡ with_signed out.old.items numbers) }
 {
     push_bytes(out, &numbers[0].to_le_bytes())?;
     push_bytes(out, &numbers[1].to_le_bytes())?;

@@ -155,6 +155,10 @@ check_text B = codes "ok " ++ totals_text B
 abbrev pub type_text : Head → ℕ → List ℕ
 type_text head kind = codes "type" ++ spaced kind ++ codes " bodies" ++ spaced (slice_index head.counts kind) ++ codes "\n"
 
+-- of each kind
+abbrev pub types_text : Head → List ℕ
+types_text head = type_text head 1 ++ type_text head 2 ++ type_text head 3 ++ type_text head 4 ++ type_text head 5
+
 abbrev pub show_text : Head → List BodyData → List ℕ
 show_text head B =
     codes "tick" ++ spaced head.tick ++ codes " number" ++ spaced head.number ++ codes " " ++ totals_text B ++

@@ -1,7 +1,7 @@
 // What is printed of bodies that were read.
 ghost use Rattle.std.specs.Prelude.{◌≡◌, ◌++◌, ◌<◌, sum_by, length, IfOk, OnOk};
 ghost use Rattle.nbody_model.specs.Bodies.{IsValid};
-ghost use Rattle.gadget.specs.Texts.{totals_text, check_text, type_text, show_text};
+ghost use Rattle.gadget.specs.Texts.{totals_text, check_text, type_text, types_text, show_text};
 
 use crate::texts::{push_counted, push_vector};
 use fixed_point::Memory;
@@ -56,8 +56,7 @@ fn push_type(lines: &mut Vec<u8>, head: &Head, kind: usize) -> Result<(), Memory
 }
 
 fn push_types(lines: &mut Vec<u8>, head: &Head) -> Result<(), Memory>
-    ensures { OnOk result (lines.new.items ≡ lines.old.items ++ (type_text head.now 1 ++ type_text head.now 2
-        ++ type_text head.now 3 ++ type_text head.now 4 ++ type_text head.now 5)) }
+    ensures { OnOk result (lines.new.items ≡ lines.old.items ++ types_text head.now) }
 {
     push_type(lines, head, 1)?;
     push_type(lines, head, 2)?;

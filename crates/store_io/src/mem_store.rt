@@ -81,7 +81,7 @@ fn first_part(bytes: &[u8], kept: Option<u64>) -> &[u8]
 }
 
 impl Store for MemStore {
-    ghost use Rattle.store_io.specs.MemStore.{mem_files, mem_closed, mem_faults, mem_last, failing, CountsCall};
+    ghost use Rattle.store_io.specs.MemStore.{mem_files, mem_closed, mem_faults, mem_last, failing, CountsCall, KeepsPart};
 
     ghost tells = { λ _. true };
 
@@ -162,9 +162,7 @@ impl Store for MemStore {
         ensures err { OnErr result (AppendsPart (mem_files self.old) (mem_files self.new)
             name.now bytes.now) }
         ensures failed { IsTrue (io_failed result)
-            → ChangesOnly (mem_files self.old) (mem_files self.new) name.now
-            (Some (bytes_of (mem_files self.old name.now)
-            ++ kept_part (failing self.old) bytes.now)) }
+            → KeepsPart self.old self.new name.now bytes.now }
         ensures cause { HasCause (io_failed result) (name.now, false)
             (mem_faults self.old) (mem_faults self.new) (mem_last self.old) (mem_last self.new) }
         ensures counts { CountsCall (io_failed result) (name.now, false) self.old self.new }
