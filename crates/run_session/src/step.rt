@@ -274,8 +274,9 @@ pub(crate) fn step<F: Forces, Q: Stopper>(
         depth: &depth,
         tick,
     };
-    let Recorded { log, ended } =
-        record_step(alloc, course, &mut set, &start, &mut known, forces, stop);
+    let Recorded { log, ended } = record_step(
+        alloc, course, &mut set, &start, &mut known, forces, stop,
+    );
     match ended {
         Ok(count) => {
             let none = Depths::from_list(Vec::new(alloc));

@@ -17,6 +17,8 @@ returns-in_default-clause-leaves g c =
     let sessions : Option ℕ → SessionData = λ s. session plan c.args.resumed s σ in
     let A = world_by g.S.Store g.Q.Stopper c.args.store.now c.args.stop.now (g.F.Forces.state c.args.forces.now) in
     let C : Basis = basis gr (option_copied c.args.inputs.now.expansion) p (own_files p c.args.resumed σ) c.args.inputs.now.outputs.now (g.S.Store.tells c.args.store.now) A in
-    let kept : AreKept σ sessions = λ s. (c.sessions_conserve.ensures plan c.args.resumed s σ c.requires.bodies).told in
-    (not_opened C passes c.args.resumed σ sessions refl kept A A refl refl refl None
-    (record { blamed = tt; files = λ told. nothing_made (own_files p c.args.resumed σ) (g.S.Store.file c.args.store.now); closed = refl; state = refl; yes = refl; left = refl }), omega arith)
+    let kept : AreKept σ sessions = λ s. (c.sessions_conserve.ensures plan c.args.resumed s σ c.requires.bodies).told in (
+      not_opened C passes c.args.resumed σ sessions refl kept A A refl refl refl None
+          (record { blamed = tt; files = λ told. nothing_made (own_files p c.args.resumed σ) (g.S.Store.file c.args.store.now); closed = refl; state = refl; yes = refl; left = refl }),
+      omega arith,
+    )
