@@ -5,10 +5,10 @@ use Rattle.nbody_model.specs.Session.{SessionData}
 use Rattle.nbody_model.specs.States.{StateData}
 use Rattle.nbody_model.specs.Passes.{Passes}
 use Rattle.run_session.specs.declared.course.Course.{Course}
-use Rattle.run_session.specs.RunEnds.{World}
 use Rattle.run_session.specs.Stages.{Basis}
 use Rattle.run_session.specs.Courses.{basis_of}
 use Rattle.run_session.specs.Turned.{Comes}
+use Rattle.run_session.specs.Worlds.{World}
 
 -- of every start and all sessions that come to a state, something holds afterwards
 abbrev pub Leads : ((C : Basis) (f : Passes) (sessions : Option ℕ → SessionData) → Type 0) → (Gravity → List ℕ → Passes) → Course → StateData → Bool → World → Gravity → List ℕ → Bool → Type 0

@@ -8,26 +8,25 @@ use Rattle.nbody_model.specs.Bodies.{total}
 use Rattle.nbody_model.specs.Passes.{PassesAll, Passes}
 use Rattle.nbody_model.specs.Evolve.{is_empty}
 use Rattle.nbody_model.specs.States.{StateData}
-use Rattle.nbody_model.specs.Session.{SessionData, End, Done, OutOfRange, asked, bins, records, is_running, tells}
-use Rattle.nbody_model.specs.Texts.{kick_text, trace_text, open_bins_text}
+use Rattle.nbody_model.specs.Session.{SessionData, End, Done, OutOfRange, asked, records, is_done, is_running, tells}
 use Rattle.step_engine.specs.BaseSteps.{is_known}
 use Rattle.store_io.specs.Files.{Files}
 use Rattle.store_io.specs.Causes.{Rose}
 use Rattle.run_session.specs.declared.turn.Turn.{Turn}
 use Rattle.run_session.specs.declared.turn.Turn.TheVariants as turns
-use Rattle.run_session.specs.Own.{Own, OwnTexts, Stands, StandsPart, OpensPart, HasPart, IsPartly, first_texts, followed, own_files, own_names}
-use Rattle.run_session.specs.Outputs.{Leaves, LeavesPart, end_mark, found_in, session_texts, with_written}
-use Rattle.run_session.specs.RunEnds.{World, IsBrokenOff, IsEnded, IsWhole, NoneLeft, YesBy}
+use Rattle.run_session.specs.Own.{Own, OwnTexts, Stands, OpensPart, IsPartly, first_texts, followed, own_files, own_names}
+use Rattle.run_session.specs.Outputs.{FinishesSome, IsMarked, Leaves, end_mark, session_texts, with_written}
+use Rattle.run_session.specs.Broken.{IsOpening, LeavesPart}
+use Rattle.run_session.specs.RunEnds.{IsBrokenOff, IsEnded, IsStopOf, IsWhole, NoneLeft}
 use Rattle.run_session.specs.Stages.{Basis, HasEnded, HasFiles, IsLeft, Matches}
 use Rattle.run_session.specs.Steps.{refusal_of}
 use Rattle.run_session.specs.Sessions.{SessionEnds, came_to_last, start_session}
 use Rattle.run_session.specs.Turned.{Comes, HasBroken, StepsEnd}
 use Rattle.run_session.proofs.Turns.{is_over, rests_here}
-use Rattle.run_session.proofs.FirstParts.{first_behind, first_none, grows_none}
-use Rattle.run_session.proofs.FileFacts.{if_some_both, part_first}
-use Rattle.run_session.proofs.Breaking.{breaks_opening}
+use Rattle.run_session.proofs.FirstParts.{grows_none}
 use Rattle.run_session.proofs.Questions.{left_none}
 use Rattle.run_session.proofs.ToldTexts.{texts_first}
+use Rattle.run_session.specs.Worlds.{World}
 
 -- ---- the beginning
 
@@ -114,61 +113,42 @@ module _ (C : Basis) (passes : Passes) (resumed : Bool) (σ : StateData) (sessio
 
   -- ---- or not
 
-  bins_part : (done : Bool) (file : Option (List ℕ)) (text : List ℕ) → HasPart file (text ++ (end_mark done).bins) → HasPart file (text ++ (end_mark true).bins)
-  bins_part true file text h = h
-  bins_part false file text h = part_first file (text ++ []) (text ++ (end_mark true).bins) h (first_behind text [] (end_mark true).bins (first_none (end_mark true).bins))
-
-  -- a fault came while they were finished
-  unfinished : (d : SessionData) (done : Bool) → HasFiles C passes d B → ((t : OwnTexts) (W : Files) → IsTrue C.told → Stands C.own t W B.files → StandsPart C.own (followed t (end_mark done)) W Z.files) → (IsTrue C.told → (k : ℕ) × (Z.closed ≡ B.closed ++ take k (own_names C.own))) →
-      IsTrue C.told → LeavesPart C.params C.own passes C.start.state d C.start.files Z.files C.start.closed Z.closed
-  unfinished d done h f n told =
-      let s = f (session_texts d h.events) (with_written C.params d.written C.start.files) told (h.files told) in
-      let k = n told in
-      record {
-        finished = d.written;
-        later = [];
-        order = sym (append-nil d.written);
-        ended = k.0;
-        closed = k.1 ∙ ap (λ xs. xs ++ take k.0 (own_names C.own)) (h.closed told);
-        files = inr (record {
-          forces = asked d;
-          unasked = [];
-          events = h.events;
-          reached = B.state;
-          order = sym (append-nil (asked d));
-          found = h.found;
-          kicks = subst (HasPart (Z.files C.own.kicks)) (append-nil (kick_text (records d))) s.kicks;
-          trace = if_some_both C.own.trace (λ m. HasPart (Z.files m) (trace_text (found_in (asked d) h.events) ++ [])) (λ m. HasPart (Z.files m) (trace_text (found_in (asked d) h.events) ++ [])) (λ m. HasPart (Z.files m) (trace_text (found_in (asked d) h.events)))
-              (λ m x _. subst (HasPart (Z.files m)) (append-nil (trace_text (found_in (asked d) h.events))) x) s.trace s.trace;
-          bins = if_some_both C.own.bins (λ m. HasPart (Z.files m) (open_bins_text (bins d) ++ (end_mark done).bins)) (λ m. HasPart (Z.files m) (open_bins_text (bins d) ++ (end_mark done).bins)) (λ m. HasPart (Z.files m) (open_bins_text (bins d) ++ (end_mark true).bins))
-              (λ m x _. bins_part done (Z.files m) (open_bins_text (bins d)) x) s.bins s.bins;
-          others = λ q other. inl (s.others q other);
-        });
-      }
-
-  cut : (d : SessionData) → (stop : Option ℕ) → d ≡ sessions stop → YesBy stop C.start.yes Z.yes → (IsTrue C.told → LeavesPart C.params C.own passes C.start.state d C.start.files Z.files C.start.closed Z.closed) → IsBrokenOff C.params resumed σ passes C.told sessions C.start Z
-  cut d stop is y f = record {
+  cut : (d : SessionData) (stop : Option ℕ) (fault : Option (List ℕ)) → d ≡ sessions stop → IsStopOf C.start.left (sessions None).questions C.start.yes Z.yes stop → LeavesPart C.params C.own passes C.told d fault C.start Z → IsBrokenOff C.params resumed σ passes C.told sessions fault C.start Z
+  cut d stop fault is question leaves = record {
     stop = stop;
-    yes = y;
-    files = λ told. subst (λ o. LeavesPart C.params o passes C.start.state (sessions stop) C.start.files Z.files C.start.closed Z.closed) own (subst (λ e. LeavesPart C.params C.own passes C.start.state e C.start.files Z.files C.start.closed Z.closed) is (f told));
+    question = question;
+    leaves = subst (λ o. LeavesPart C.params o passes C.told (sessions stop) fault C.start Z) own (subst (λ e. LeavesPart C.params C.own passes C.told e fault C.start Z) is leaves);
     kept = kept stop;
   }
 
-  pub not_finished : (t : Turn) → StepsEnd C passes sessions B t → ((u : OwnTexts) (W : Files) → IsTrue C.told → Stands C.own u W B.files → StandsPart C.own (followed u (end_mark (came_to_last t))) W Z.files) → (IsTrue C.told → (k : ℕ) × (Z.closed ≡ B.closed ++ take k (own_names C.own))) →
-      IsBrokenOff C.params resumed σ passes C.told sessions C.start Z
-  not_finished (turns.On last) e f n =
+  -- a fault came while they were finished
+  unfinished : (d : SessionData) (done : Bool) (fault : Option (List ℕ)) → is_done d.end ≡ done → HasFiles C passes d B → FinishesSome C.own done C.told fault B.files Z.files B.closed Z.closed → LeavesPart C.params C.own passes C.told d fault C.start Z
+  unfinished d done fault is h f = inr (inr (record {
+    events = h.events;
+    found = subst (λ s. PassesAll passes (asked d) C.start.state h.events s) (sym same) h.found;
+    some = record {
+      ended = f.some.ended;
+      blamed = f.some.blamed;
+      closed = λ told. f.some.closed told ∙ ap (λ xs. xs ++ take f.some.ended (own_names C.own)) (h.closed told);
+    };
+    files = λ told. subst (λ b. IsMarked C.own (session_texts d h.events) b f.some.ended (with_written C.params d.written C.start.files) Z.files) (sym is) (f.files (session_texts d h.events) (with_written C.params d.written C.start.files) told (h.files told));
+  }))
+
+  pub not_finished : (t : Turn) (fault : Option (List ℕ)) → StepsEnd C passes sessions B t → FinishesSome C.own (came_to_last t) C.told fault B.files Z.files B.closed Z.closed → IsBrokenOff C.params resumed σ passes C.told sessions fault C.start Z
+  not_finished (turns.On last) fault e f =
       let over = over_ends C passes sessions last.state (is_known last.known) B e.0 e.1.0 e.1.1 in
-      cut (sessions None) None refl (said ∙ over.0.quiet.yes) (unfinished (sessions None) true over.0.files f n)
-  not_finished (turns.Stopped τ) e f n = cut (sessions (Some τ.tick)) (Some τ.tick) refl (subst (λ y. Rose C.start.yes y) (sym said) e.yes) (unfinished (sessions (Some τ.tick)) false e.files f n)
-  not_finished (turns.Refused why) e f n = cut (sessions None) None refl (said ∙ e.quiet.yes) (unfinished (sessions None) false e.files f n)
+      cut (sessions None) None fault refl (said ∙ over.0.quiet.yes) (unfinished (sessions None) true fault (ap is_done over.0.end) over.0.files f)
+  not_finished (turns.Stopped τ) fault e f =
+      cut (sessions (Some τ.tick)) (Some τ.tick) fault refl (subst (λ y. Rose C.start.yes y) (sym said) e.yes, e.question) (unfinished (sessions (Some τ.tick)) false fault (ap is_done e.end) e.files f)
+  not_finished (turns.Refused why) fault e f = cut (sessions None) None fault refl (said ∙ e.quiet.yes) (unfinished (sessions None) false fault (ap is_done e.end) e.files f)
 
   -- it was broken off before
-  pub was_broken : HasBroken C passes sessions Z → IsBrokenOff C.params resumed σ passes C.told sessions C.start Z
-  was_broken h = cut (sessions h.stop) h.stop refl h.yes (λ told. h.left.left (sessions h.stop) (grows_none (sessions h.stop)) told)
+  pub was_broken : (fault : Option (List ℕ)) → HasBroken C passes sessions fault Z → IsBrokenOff C.params resumed σ passes C.told sessions fault C.start Z
+  was_broken fault h = cut (sessions h.stop) h.stop fault refl h.question (inr (inl (h.broken.going (sessions h.stop) (grows_none (sessions h.stop)))))
 
   -- while the open files were made
-  pub not_opened : (IsTrue C.told → OpensPart C.own C.start.files Z.files) → Z.closed ≡ C.start.closed → Z.yes ≡ C.start.yes → IsBrokenOff C.params resumed σ passes C.told sessions C.start Z
-  not_opened f k y = cut (sessions None) None refl y (λ told. breaks_opening C passes (sessions None) (sessions None) Z (f told) k)
+  pub not_opened : (fault : Option (List ℕ)) → IsOpening C.own C.told fault C.start Z → IsBrokenOff C.params resumed σ passes C.told sessions fault C.start Z
+  not_opened fault h = cut (sessions None) None fault refl h.yes (inl h)
 
 -- nothing was made at all
 partly_here : (name : Option (List ℕ)) (files : Files) (text : List ℕ) → IfSome name (λ n. IsPartly (files n) (files n) text)

@@ -7,7 +7,8 @@ use Rattle.nbody_model.specs.Evolve.{Happening, rests_of, Progress, Stepped, Goi
 use Rattle.nbody_model.specs.Session.{Plan, SessionData, is_running, is_stop, with_snapshot, with_restart, is_due, is_kept, synchronised, advanced, with_trail, base_step, is_done, session_from}
 use Rattle.step_engine.specs.Ends.{trail_of}
 use Rattle.run_session.specs.Stages.{IsFirst, GrowsTo}
-use Rattle.run_session.proofs.Turns.{synced, goes_on, onward, is_over}
+use Rattle.model_laws.proofs.Resumed.{onward}
+use Rattle.run_session.proofs.Turns.{synced, goes_on, is_over}
 
 -- ---- first parts
 

@@ -5,7 +5,8 @@ use Rattle.nbody_model.specs.Evolve.{rest_in, rests_of, Stepped, Going, Refused,
 use Rattle.nbody_model.specs.Session.{Plan, SessionData, Done, Stopped, is_running, is_due, is_kept, with_snapshot, with_restart, synchronised, advanced, with_trail, base_step, is_done, session_from, session}
 use Rattle.nbody_model.specs.States.{StateData}
 use Rattle.step_engine.specs.Ends.{trail_of}
-use Rattle.run_session.proofs.Turns.{refused, goes_on, onward, is_over, stops_here}
+use Rattle.model_laws.proofs.Resumed.{done_on, onward, stops_here, synced_by, synced_is, synced_none}
+use Rattle.run_session.proofs.Turns.{refused, goes_on, is_over}
 use Rattle.run_session.specs.Stages.{IsFirst, GrowsTo}
 use Rattle.run_session.proofs.FirstParts.{first_on, first_behind, first_flat, onward_grows, session_grows}
 use Rattle.run_session.proofs.Pauses.{Pauses, base_pauses, pause_rests}
@@ -24,26 +25,6 @@ abbrev pub StopsOrNot : ℕ → SessionData → SessionData → Type 0
 StopsOrNot u d whole = (d ≡ whole) ⊎ StopsAt u d whole
 
 -- ---- at a synchronisation
-
--- but for the question of whether it is stopped
-abbrev synced_by : Plan → Option ℕ → SessionData → Bool → SessionData
-synced_by plan before d stops =
-    let asks : Bool = elim before [ None ↦ false | Some w ↦ is_running plan d.state ] in
-    let shown = with_snapshot (is_due plan before d.state.tick || not (is_running plan d.state)) d in
-    let told : SessionData = cond asks (record shown { questions = shown.questions ++ d.state.tick ∷ [] }) shown in
-    let saved = with_restart (is_kept plan d.state || stops) told in
-    record saved { states = d.states ++ shown.state ∷ []; end = cond stops Stopped Done }
-
-synced_is : (plan : Plan) (stop before : Option ℕ) (d : SessionData) → synchronised plan stop before d ≡ synced_by plan before d (stops_here plan stop before d)
-unfolding synchronised
-synced_is plan stop before d = refl
-
-never : (b : Bool) → (b && false) ≡ false
-never true = refl
-never false = refl
-
-synced_none : (plan : Plan) (before : Option ℕ) (d : SessionData) → synchronised plan None before d ≡ synced_by plan before d false
-synced_none plan before d = synced_is plan None before d ∙ ap (synced_by plan before d) (never (elim before [ None ↦ false | Some w ↦ is_running plan d.state ]))
 
 restart_trail : (b : Bool) (d : SessionData) → (with_restart b d).trail ≡ d.trail
 restart_trail true d = refl
@@ -81,9 +62,6 @@ halts_synced n plan u w d e =
       front = shown.questions;
       last = restart_questions a told ∙ asked_questions asks d.state.tick shown both.0 ∙ ap (λ x. shown.questions ++ x ∷ []) (sym (eqb-true u d.state.tick both.1));
     }
-
-done_on : (n : ℕ) (plan : Plan) (stop : Option ℕ) (e : SessionData) → e.end ≡ Done → goes_on n plan stop e ≡ session_from n plan stop true e
-done_on n plan stop e h = λ i. cond (is_done (h i)) (session_from n plan stop true e) e
 
 -- what is shown of the base steps that follow
 abbrev Later : ℕ → Plan → ℕ → Type 0

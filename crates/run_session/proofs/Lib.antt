@@ -1,4 +1,5 @@
 pub mod LineWords
+pub mod Blamed
 pub mod OwnChanges
 pub mod Numbers
 pub mod Turns

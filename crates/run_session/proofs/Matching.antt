@@ -1,14 +1,15 @@
 -- Where a run stands after each of its parts.
-use Rattle.std.proofs.Common.{◌≡◌, true, List, [], ◌∷◌, ◌++◌, map, length, refl, ap, sym, ◌∙◌, subst, append_assoc}
+use Rattle.std.proofs.Common.{◌≡◌, ℕ, true, List, [], ◌∷◌, ◌++◌, map, length, Option, refl, ap, sym, ◌∙◌, subst, append_assoc}
 use Rattle.nbody_model.specs.Passes.{PassesAll, Passes}
 use Rattle.nbody_model.specs.States.{StateData}
 use Rattle.nbody_model.specs.Session.{SessionData, Written, Snapshot, Restart, raised64, with_snapshot, with_restart, asked, kept}
+use Rattle.run_session.specs.Causes.{IsAmong}
 use Rattle.run_session.specs.Own.{Stands}
 use Rattle.run_session.specs.Outputs.{file_name, with_written, session_texts}
-use Rattle.run_session.specs.RunEnds.{World}
 use Rattle.run_session.specs.Stages.{Basis, HasFiles, IsQuietly, IsLeft, Matches, IsBrokenIn, WritesFile, WritesPart}
 use Rattle.run_session.proofs.FileFacts.{written_more}
 use Rattle.run_session.proofs.Breaking.{breaks_next}
+use Rattle.run_session.specs.Worlds.{World}
 
 map_more : {X Y : Type 0} (f : X → Y) (xs : List X) (x : X) → map f (xs ++ x ∷ []) ≡ map f xs ++ f x ∷ []
 map_more f [] x = refl
@@ -42,10 +43,10 @@ snapshot_matches C passes d σ A Z fs f l y t m w =
     still_quiet : (S A Z : World) (d : SessionData) → Z.faults ≡ A.faults → Z.last ≡ A.last → Z.yes ≡ A.yes → Z.left ≡ A.left → IsQuietly S A (length d.questions) → IsQuietly S Z (length d.questions)
     still_quiet S A Z d f l y t q = record { faults = f ∙ q.faults; last = l ∙ q.last; yes = y ∙ q.yes; left = subst (λ x. IsLeft S.left (length d.questions) x) (sym t) q.left }
 
-pub snapshot_breaks : (C : Basis) (passes : Passes) (d : SessionData) (σ : StateData) (A Z : World) →
-    Matches C passes d σ A → WritesPart C.params C.own (Snapshot σ.next_snapshot σ) C.told A.files Z.files A.closed Z.closed → IsBrokenIn C passes (with_snapshot true d) Z
-snapshot_breaks C passes d σ A Z m w =
-    breaks_next C passes d (with_snapshot true d) (Snapshot d.state.next_snapshot d.state) A Z refl refl refl m.files
+pub snapshot_breaks : (C : Basis) (passes : Passes) (d : SessionData) (σ : StateData) (fault : Option (List ℕ)) (A Z : World) → IsAmong (file_name C.params (Snapshot σ.next_snapshot σ) ∷ []) fault →
+    Matches C passes d σ A → WritesPart C.params C.own (Snapshot σ.next_snapshot σ) C.told A.files Z.files A.closed Z.closed → IsBrokenIn C passes (with_snapshot true d) fault Z
+snapshot_breaks C passes d σ fault A Z b m w =
+    breaks_next C passes d (with_snapshot true d) (Snapshot d.state.next_snapshot d.state) fault A Z refl refl refl (subst (λ (ρ : StateData). IsAmong (file_name C.params (Snapshot ρ.next_snapshot ρ) ∷ []) fault) (sym m.state) b) m.files
     (subst (λ (ρ : StateData). WritesPart C.params C.own (Snapshot ρ.next_snapshot ρ) C.told A.files Z.files A.closed Z.closed) (sym m.state) w)
 
 -- a restart file
@@ -54,8 +55,8 @@ pub restart_files : (C : Basis) (passes : Passes) (d : SessionData) (σ : StateD
 restart_files C passes d σ A Z fs s h w =
     files_more C passes d (Restart d.state.next_restart (kept d.state)) (kept d.state) A Z h fs (subst (λ (ρ : StateData). WritesFile C.params C.own (Restart ρ.next_restart (kept ρ)) C.told A.files Z.files A.closed Z.closed) (sym s) w)
 
-pub restart_breaks : (C : Basis) (passes : Passes) (d : SessionData) (σ : StateData) (A Z : World) → d.state ≡ σ →
-    HasFiles C passes d A → WritesPart C.params C.own (Restart σ.next_restart (record σ { next_restart = raised64 σ.next_restart 1 })) C.told A.files Z.files A.closed Z.closed → IsBrokenIn C passes (with_restart true d) Z
-restart_breaks C passes d σ A Z s h w =
-    breaks_next C passes d (with_restart true d) (Restart d.state.next_restart (kept d.state)) A Z refl refl refl h
+pub restart_breaks : (C : Basis) (passes : Passes) (d : SessionData) (σ : StateData) (fault : Option (List ℕ)) (A Z : World) → IsAmong (file_name C.params (Restart σ.next_restart (kept σ)) ∷ []) fault → d.state ≡ σ →
+    HasFiles C passes d A → WritesPart C.params C.own (Restart σ.next_restart (record σ { next_restart = raised64 σ.next_restart 1 })) C.told A.files Z.files A.closed Z.closed → IsBrokenIn C passes (with_restart true d) fault Z
+restart_breaks C passes d σ fault A Z b s h w =
+    breaks_next C passes d (with_restart true d) (Restart d.state.next_restart (kept d.state)) fault A Z refl refl refl (subst (λ (ρ : StateData). IsAmong (file_name C.params (Restart ρ.next_restart (kept ρ)) ∷ []) fault) (sym s) b) h
     (subst (λ (ρ : StateData). WritesPart C.params C.own (Restart ρ.next_restart (kept ρ)) C.told A.files Z.files A.closed Z.closed) (sym s) w)

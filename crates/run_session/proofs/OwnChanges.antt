@@ -1,10 +1,13 @@
 -- What calls on the files that a run keeps open do to them, one after another.
-use Rattle.std.proofs.Common.{◌≡◌, ◌≢◌, inl, inr, ℕ, ◌+◌, List, [], ◌∷◌, ◌++◌, length, take, Option, Some, None, ap, subst, sym, refl, ◌∙◌, append-nil, append_assoc, rules}
-use Rattle.std.specs.Prelude.{IsSome, IfSome, OnOk, OnErr, Result, Ok, Err}
-use Rattle.std.proofs.Math.Seq.{take-append-add, take-append_seam, take-length}
+use Rattle.std.proofs.Common.{◌≡◌, ◌≢◌, inl, inr, ℕ, ◌+◌, Bool, true, false, IsTrue, List, [], ◌∷◌, ◌++◌, length, take, Option, Some, None, ap, subst, sym, refl, ◌∙◌, append-nil, append_assoc, arith, rules}
+use Rattle.std.specs.Prelude.{IsSome, IfErr, IfSome, OnOk, OnErr, Result, Ok, Err, unwrap_or}
+use Rattle.std.proofs.Math.Seq.{drop-append_seam, take-append-add, take-append_seam, take-length}
 use Rattle.store_io.specs.Files.{Files, bytes_of, ChangesOnly, AppendsPart}
+use Rattle.run_session.specs.Causes.{IsAmong}
 use Rattle.run_session.specs.Changes.{AreThere, IsPartlyNow, Grows, GrowsPartly, Turns, TurnsIf, TurnAll, WritesPart}
-use Rattle.run_session.specs.Own.{Own, AreApart, HasPart, OwnTexts, Stands, StandsPart, followed}
+use Rattle.run_session.specs.Outputs.{EndsSome, FinishesSome, IsMarked, begun_mark, end_mark}
+use Rattle.run_session.specs.Own.{Own, AreApart, HasPart, OwnTexts, Stands, StandsPart, followed, name_list, own_names}
+use Rattle.run_session.proofs.Blamed.{among_first, among_last}
 
 pub on_err_then : {T E P Q : Type 0} (r : Result T E) → (P → Q) → OnErr r P → OnErr r Q
 on_err_then (Ok x) f h = tt
@@ -137,23 +140,86 @@ pub appended : (o : Own) (more : OwnTexts) (a b c d : Files) → AreApart o → 
 appended o more a b c d p h k l t W s =
     stand_in_part o t more W a d (joined (GrowsPartly more.kicks) (GrowsPartly more.trace) (GrowsPartly more.bins) o a b c d p h k l) s
 
--- the bin file alone has grown by an end mark
-pub ended : (o : Own) (mark : List ℕ) (a b c : Files) → AreApart o → TurnsIf (GrowsPartly mark) o.bins a b → c ≡ b → (t : OwnTexts) (W : Files) → Stands o t W a
-    → StandsPart o (followed t (record { kicks = []; trace = []; bins = mark })) W c
-ended o mark a b c p l e t W s =
-    let more : OwnTexts = record { kicks = []; trace = []; bins = mark } in
-    subst (λ files. StandsPart o (followed t more) W files) (sym e) (appended o more a a a b p (not_grown [] (Some o.kicks) a) (not_grown [] o.trace a) l t W s)
+-- the bin file alone has grown by a part of an end mark
+grown_by : (name : Option (List ℕ)) (mark : List ℕ) (a b : Files) → (t : List ℕ) → IfSome name (λ n. a n ≡ Some t) → TurnsIf (GrowsPartly mark) name a b → (k : ℕ) × TurnsIf (Grows (take k mark)) name a b
+grown_by None mark a b t e h = (0, h)
+grown_by (Some n) mark a b t e h =
+    let k = h.turned t e in
+    (k.0, record { turned = λ text f. subst (λ x. b n ≡ Some (x ++ take k.0 mark)) (some_same t text (sym e ∙ f)) k.1; others = h.others })
+  where
+    some_same : (x y : List ℕ) → Some x ≡ Some y → x ≡ y
+    some_same x y p = ap (λ (s : Option (List ℕ)). unwrap_or s []) p
+
+marked_by : (o : Own) (mark : List ℕ) (a b : Files) → AreApart o → TurnsIf (Grows mark) o.bins a b → (t : OwnTexts) (W : Files) → Stands o t W a
+    → Stands o (followed t (record { kicks = []; trace = []; bins = mark })) W b
+marked_by o mark a b p h t W s =
+    stand_followed o t (record { kicks = []; trace = []; bins = mark }) W a b
+    (joined (Grows []) (Grows []) (Grows mark) o a a a b p (record { turned = grows_by_nothing (a o.kicks); others = λ q ne. refl }) (stays_if (Grows []) o.trace a grows_by_nothing) h) s
+
+-- in part, where none of the three is finished yet
+pub marked_partly : (o : Own) (done : Bool) (a b : Files) → AreApart o → TurnsIf (GrowsPartly (end_mark done).bins) o.bins a b → (t : OwnTexts) (W : Files) → Stands o t W a → IsMarked o t done 0 W b
+marked_partly o done a b p h t W s =
+    let g = grown_by o.bins (end_mark done).bins a b t.bins s.bins h in
+    record { mark = g.0; whole = inl refl; stands = marked_by o (take g.0 (end_mark done).bins) a b p g.1 t W s }
+
+mark_whole : (done : Bool) → (end_mark done).bins ≡ take 8 (end_mark done).bins
+mark_whole true = refl
+mark_whole false = refl
+
+-- whole
+pub marked_whole : (o : Own) (done : Bool) (ended : ℕ) (a b c : Files) → AreApart o → TurnsIf (Grows (end_mark done).bins) o.bins a b → c ≡ b → (t : OwnTexts) (W : Files) → Stands o t W a → IsMarked o t done ended W c
+marked_whole o done ended a b c p h e t W s = record {
+  mark = 8;
+  whole = inr (omega arith);
+  stands = subst (λ files. Stands o (followed t (begun_mark 8 done)) W files) (sym e) (marked_by o (take 8 (end_mark done).bins) a b p (subst (λ m. TurnsIf (Grows m) o.bins a b) (mark_whole done) h) t W s);
+}
 
 -- ---- what was finished
 
--- the first so many of three parts
-pub closed_first : (closed now : List (List ℕ)) (name : List ℕ) (trace bins : List (List ℕ)) → now ≡ closed ++ name ∷ [] → (k : ℕ) × (now ≡ closed ++ take k (name ∷ trace ++ bins))
-closed_first closed now name trace bins e = (1, e)
+-- none of three
+pub ends_none : (told : Bool) (fault : Option (List ℕ)) (closed now : List (List ℕ)) (o : Own) → IsAmong (own_names o) fault → now ≡ closed → EndsSome o told fault closed now
+ends_none told fault closed now o b e = record { ended = 0; blamed = b; closed = λ t. e ∙ sym (append-nil closed) }
 
-pub closed_second : (closed mid now : List (List ℕ)) (name : List ℕ) (trace bins : List (List ℕ)) → mid ≡ closed ++ name ∷ [] → now ≡ mid ++ trace
-    → (k : ℕ) × (now ≡ closed ++ take k (name ∷ trace ++ bins))
-closed_second closed mid now name trace bins e f =
-    (length (name ∷ trace), f ∙ ap (λ l. l ++ trace) e ∙ append_assoc closed (name ∷ []) trace ∙ ap (λ l. closed ++ l) (sym (take-append_seam (name ∷ trace) bins)))
+-- none of three, by a fault at the first
+pub ends_at_first : (told : Bool) (fault : Option (List ℕ)) (closed now : List (List ℕ)) (o : Own) → IsAmong (o.kicks ∷ []) fault → now ≡ closed → EndsSome o told fault closed now
+ends_at_first told fault closed now o b e = ends_none told fault closed now o (among_first (o.kicks ∷ []) (name_list o.trace ++ name_list o.bins) fault b) e
+
+-- the first one
+pub ends_first : (told : Bool) (fault : Option (List ℕ)) (closed mid now : List (List ℕ)) (o : Own) → IsAmong (name_list o.trace) fault → (IsTrue told → mid ≡ closed ++ o.kicks ∷ []) → now ≡ mid → EndsSome o told fault closed now
+ends_first told fault closed mid now o b e f = record { ended = 1; blamed = among_first (name_list o.trace) (name_list o.bins) fault b; closed = λ t. f ∙ e t }
+
+-- the first two
+pub ends_second : (told : Bool) (fault : Option (List ℕ)) (closed mid two now : List (List ℕ)) (o : Own) → IsAmong (name_list o.bins) fault → (IsTrue told → mid ≡ closed ++ o.kicks ∷ []) → (IsTrue told → two ≡ mid ++ name_list o.trace) → now ≡ two
+    → EndsSome o told fault closed now
+ends_second told fault closed mid two now o b e f s = record {
+  ended = length (o.kicks ∷ name_list o.trace);
+  blamed = subst (λ xs. IsAmong xs fault) (sym (drop-append_seam (name_list o.trace) (name_list o.bins))) b;
+  closed = λ t. s ∙ f t ∙ ap (λ l. l ++ name_list o.trace) (e t) ∙ append_assoc closed (o.kicks ∷ []) (name_list o.trace) ∙ ap (λ l. closed ++ l) (sym (take-append_seam (o.kicks ∷ name_list o.trace) (name_list o.bins)));
+}
+
+-- the end mark couldn't be put
+pub finishes_none : (o : Own) (done told : Bool) (fault : Option (List ℕ)) (old new : Files) (closed now : List (List ℕ)) → AreApart o → IsAmong (name_list o.bins) fault → now ≡ closed → (IsTrue told → TurnsIf (GrowsPartly (end_mark done).bins) o.bins old new)
+    → FinishesSome o done told fault old new closed now
+finishes_none o done told fault old new closed now p b e h = record {
+  some = record { ended = 0; blamed = among_last (o.kicks ∷ name_list o.trace) (name_list o.bins) fault b; closed = λ at. e ∙ sym (append-nil closed) };
+  files = λ t W at s. marked_partly o done old new p (h at) t W s;
+}
+
+-- it stands, and some were finished
+pub finishes_some : (o : Own) (done told told_mid : Bool) (fault : Option (List ℕ)) (old mid new : Files) (closed closed_mid now : List (List ℕ)) → AreApart o → (IsTrue told → TurnsIf (Grows (end_mark done).bins) o.bins old mid) → told_mid ≡ told → closed_mid ≡ closed → new ≡ mid
+    → EndsSome o told_mid fault closed_mid now → FinishesSome o done told fault old new closed now
+finishes_some o done told told_mid fault old mid new closed closed_mid now p h q e f s = record {
+  some = record { ended = s.ended; blamed = s.blamed; closed = λ at. s.closed (q ∙ at) ∙ ap (λ l. l ++ take s.ended (own_names o)) e };
+  files = λ t W at x. marked_whole o done s.ended old mid new p (h at) f t W x;
+}
+
+pub err_both : {T E : Type 0} (r : Result T E) (P : E → Type 0) (Q : Type 0) (R : E → Type 0) → ((e : E) → P e → Q → R e) → IfErr r P → OnErr r Q → IfErr r R
+err_both (Ok x) P Q R f h k = tt
+err_both (Err e) P Q R f h k = f e h k
+
+pub err_by : {T E : Type 0} (r : Result T E) (P R : E → Type 0) → ((e : E) → P e → R e) → IfErr r P → IfErr r R
+err_by (Ok x) P R f h = tt
+err_by (Err e) P R f h = f e h
 
 -- ---- a file that was made, written and then not finished
 

@@ -13,7 +13,8 @@ use Rattle.nbody_model.specs.Continue.{round, continue}
 use Rattle.nbody_model.specs.Session.{Plan, SessionData, with_trail, base_step, session_from}
 use Rattle.model_laws.proofs.Rests.{Moves, kick_moves, close_moves}
 use Rattle.step_engine.specs.Ends.{trail_of}
-use Rattle.run_session.proofs.Turns.{onward, is_over, turn}
+use Rattle.model_laws.proofs.Resumed.{onward}
+use Rattle.run_session.proofs.Turns.{is_over, turn}
 use Rattle.run_session.specs.Stages.{IsFirst, GrowsTo}
 use Rattle.run_session.proofs.FirstParts.{first_all, first_more, first_on, first_behind, first_flat, grows_on, onward_grows}
 

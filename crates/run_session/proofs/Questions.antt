@@ -1,16 +1,16 @@
 -- The questions of a step, and how many are left after them.
-use Rattle.std.proofs.Common.{◌≡◌, ◌<◌, ℕ, suc, ◌+◌, ◌-◌, Bool, true, false, cond, ◌==◌, IsTrue, List, [], ◌∷◌, ◌++◌, length, slice_index, Option, Some, None, refl, ap, sym, ◌∙◌, subst, arith, append_assoc}
+use Rattle.std.proofs.Common.{◌≡◌, ℕ, suc, ◌+◌, ◌-◌, Bool, true, false, cond, ◌==◌, IsTrue, List, [], ◌∷◌, ◌++◌, length, Option, Some, None, refl, ap, sym, ◌∙◌, subst, arith, append_assoc}
 use Rattle.std.specs.Option.{IfSome}
 use Rattle.std.proofs.lemmas.Bool.{false≢true, true≢false, eqb-true, eq-eqb}
 use Rattle.std.proofs.lemmas.List.{length-append}
-use Rattle.std.proofs.Math.Seq.{get_or-append_seam}
 use Rattle.nbody_model.specs.Tables.{Gravity}
 use Rattle.nbody_model.specs.Evolve.{Happening, Rested, rest_in, rests_of}
 use Rattle.step_engine.specs.Taken.{Taken, TookForces, TookKick, TookRest, TookPart}
 use Rattle.step_engine.specs.Told.{TellAll}
 use Rattle.step_engine.specs.Ends.{NoYes, LastYes}
 use Rattle.run_session.specs.Logs.{leaves}
-use Rattle.run_session.specs.Stages.{IsFirst, IsLeft}
+use Rattle.run_session.specs.RunEnds.{IsAnsweredYes}
+use Rattle.run_session.specs.Stages.{IsFirst, IsLast, IsLeft}
 
 -- ---- questions that were answered no
 
@@ -106,12 +106,21 @@ ends_in g tick entries trail left now e last t =
 -- ---- over a whole session
 
 -- so many were answered no, and the last of these ticks is the one of the yes: it is so of all ticks that begin so
-pub answered_yes : (l : ℕ) (now : Option ℕ) (tick : ℕ) (before ticks whole : List ℕ) → IsLeft (Some l) (length before) now → EndsIn now tick ticks → IsFirst (before ++ ticks) whole → (l < length whole) × (slice_index whole l ≡ tick)
-answered_yes l None tick before ticks whole h e f = absurd h
-answered_yes l (Some m) tick before ticks whole h e f =
+pub answered_yes : (left now : Option ℕ) (tick : ℕ) (before ticks whole : List ℕ) → IsLeft left (length before) now → EndsIn now tick ticks → IsFirst (before ++ ticks) whole → IsAnsweredYes left whole tick
+answered_yes left now tick before ticks whole h e f =
     let front = before ++ e.front in
-    let is : whole ≡ front ++ tick ∷ f.more = f.is ∙ ap (λ xs. (before ++ xs) ++ f.more) e.is ∙ ap (λ xs. xs ++ f.more) (sym (append_assoc before e.front (tick ∷ []))) ∙ append_assoc front (tick ∷ []) f.more in
-    let c = e.count in
-    let at : length front ≡ l = omega (arith, h, c, length-append before e.front) in
-    let long : length whole ≡ length front + suc (length f.more) = ap length is ∙ length-append front (tick ∷ f.more) in
-    (omega (arith, at, long), ap (λ xs. slice_index xs l) is ∙ ap (slice_index (front ++ tick ∷ f.more)) (sym at) ∙ get_or-append_seam front tick f.more 0)
+    record {
+      before = front;
+      after = f.more;
+      is = f.is ∙ ap (λ xs. (before ++ xs) ++ f.more) e.is ∙ ap (λ xs. xs ++ f.more) (sym (append_assoc before e.front (tick ∷ []))) ∙ append_assoc front (tick ∷ []) f.more;
+      count = counted left now h e.count;
+    }
+  where
+    counted : (l m : Option ℕ) → IsLeft l (length before) m → IfSome m (λ n. n ≡ length e.front) → IfSome l (λ n. n ≡ length (before ++ e.front))
+    counted None m k c = tt
+    counted (Some l) None k c = absurd k
+    counted (Some l) (Some m) k c = omega (arith, k, c, length-append before e.front)
+
+-- the question behind these is that of the yes
+pub last_question : (left : Option ℕ) (questions : List ℕ) (tick : ℕ) (whole : List ℕ) → IsLast left (length questions) → IsFirst (questions ++ tick ∷ []) whole → IsAnsweredYes left whole tick
+last_question left questions tick whole h f = record { before = questions; after = f.more; is = f.is ∙ append_assoc questions (tick ∷ []) f.more; count = h }

@@ -3,11 +3,11 @@ use Rattle.std.proofs.Common.{◌≡◌, ℕ, ◌+◌, true, false, cond, Option
 use Rattle.nbody_model.specs.States.{StateData}
 use Rattle.nbody_model.specs.Session.{Plan, is_done, synchronised, session_from, session}
 use Rattle.nbody_model.specs.Passes.{Passes}
-use Rattle.run_session.specs.RunEnds.{World}
 use Rattle.run_session.specs.Stages.{Basis, Matches}
 use Rattle.run_session.specs.Sessions.{start_session}
 use Rattle.run_session.specs.Turned.{Comes, ComesToSync}
 use Rattle.run_session.proofs.Turns.{sync_end}
+use Rattle.run_session.specs.Worlds.{World}
 
 resumed_is : (plan : Plan) (stop : Option ℕ) (σ : StateData) → session plan true stop σ ≡ session_from (plan.rules.gravity.setup.time_max + 1) plan stop false (start_session σ)
 unfolding session

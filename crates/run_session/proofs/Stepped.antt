@@ -30,11 +30,11 @@ use Rattle.run_session.specs.declared.step.Made.{Made}
 use Rattle.run_session.specs.Numbers.{flag, recorder_numbers}
 use Rattle.run_session.specs.Own.{Own, OwnTexts}
 use Rattle.run_session.specs.Logs.{texts_taken, leaves, tells}
-use Rattle.run_session.specs.RunEnds.{World}
 use Rattle.run_session.specs.Stages.{IsLogged, IsLastOf, IsWhole, IsAtRest, IsOut}
 use Rattle.run_session.specs.Steps.{CanStep, IsRecorded, IsMade, StepMade, RestsWith, made_of, state_with, counted_by, stepped_by, step_end}
 use Rattle.run_session.proofs.ToldTexts.{tells_none, tells_texts, logged}
 use Rattle.run_session.proofs.Questions.{left_after, ends_in, EndsIn}
+use Rattle.run_session.specs.Worlds.{World}
 
 -- ---- the base step of a state, where no body has a depth, and where there are depths
 

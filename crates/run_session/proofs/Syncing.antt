@@ -1,18 +1,19 @@
 -- A synchronisation, part by part.
-use Rattle.std.proofs.Common.{◌≡◌, ℕ, ◌+◌, ◌==◌, nat_lt, Bool, true, false, cond, not, ◌&&◌, ◌||◌, [], ◌∷◌, ◌++◌, length, Option, Some, None, refl, ap, sym, ◌∙◌, subst, arith}
+use Rattle.std.proofs.Common.{◌≡◌, ℕ, ◌+◌, ◌==◌, nat_lt, Bool, true, false, cond, not, ◌&&◌, ◌||◌, List, [], ◌∷◌, ◌++◌, length, Option, Some, None, refl, ap, sym, ◌∙◌, subst, arith}
 use Rattle.std.proofs.lemmas.List.{length-append}
 use Rattle.std.proofs.lemmas.Bool.{true≢false}
 use Rattle.store_io.specs.Causes.{Rose}
 use Rattle.store_io.specs.Stops.{Asks, Counted}
+use Rattle.model_laws.proofs.Resumed.{never}
 use Rattle.nbody_model.specs.States.{StateData}
 use Rattle.nbody_model.specs.Session.{Plan, SessionData, Done, Stopped, is_running, is_stop, is_due, is_kept, with_snapshot, with_restart, synchronised, asked}
-use Rattle.nbody_model.specs.Passes.{Passes, PassesAll}
-use Rattle.run_session.specs.RunEnds.{World}
 use Rattle.run_session.specs.Stages.{Basis, HasFiles, IsLeft, Matches, IsBrokenIn, GrowsTo, asks_at, kept_after, IsAnswer, IsLast, IsHalted, GoesOn, SyncEnds, SyncBreaks}
 use Rattle.run_session.specs.Own.{Stands}
 use Rattle.run_session.specs.Outputs.{session_texts, with_written}
+use Rattle.nbody_model.specs.Passes.{PassesAll, Passes}
 use Rattle.std.proofs.lemmas.Bool.Decides.{nat_tests}
 use Rattle.run_session.proofs.FirstParts.{first_all, first_more, grows_none, grows_on, restart_grows}
+use Rattle.run_session.specs.Worlds.{World}
 
 -- ---- the definition by its parts
 
@@ -79,6 +80,11 @@ left_last (Some a) n None m h k = absurd h
 left_last (Some a) n (Some l) None h k = absurd k
 left_last (Some a) n (Some l) (Some m) h k = omega (arith, h, k)
 
+-- no question was left there, also before the snapshot
+last_shown : (b : Bool) (e : SessionData) (A l m : Option ℕ) → IsLeft A (length (with_snapshot b e).questions) l → Counted true l m → IsLast A (length e.questions)
+last_shown true e A l m h k = left_last A (length e.questions) l m h k
+last_shown false e A l m h k = left_last A (length e.questions) l m h k
+
 asked_length : (asks : Bool) (tick : ℕ) (d : SessionData) → length (told_of asks tick d).questions ≡ cond asks (length d.questions + 1) (length d.questions)
 asked_length true tick d = length-append d.questions (tick ∷ [])
 asked_length false tick d = refl
@@ -90,10 +96,6 @@ answered_no false tick d A y z l m a e h = (a.1.0 ∙ e, subst (λ x. IsLeft A.l
 answered_yes : (asks : Bool) (y z : ℕ) (l m : Option ℕ) → IsAnswer asks true y z l m → (asks ≡ true) × Asks true y z l m
 answered_yes true y z l m a = (refl, a)
 answered_yes false y z l m a = absurd (true≢false a.0)
-
-no_and : (b : Bool) → (b && false) ≡ false
-no_and true = refl
-no_and false = refl
 
 same_tick : (n : ℕ) → (n == n) ≡ true
 same_tick n = grind (arith, nat_tests)
@@ -112,7 +114,7 @@ module _ (C : Basis) (passes : Passes) (before : Option ℕ) (d : SessionData) (
       (with_restart (is_kept C.plan d.state || false) told).state ≡ τ → HasFiles C passes (with_restart (is_kept C.plan d.state || false) told) Z →
       (stop : Option ℕ) → is_stop stop d.state.tick ≡ false → GoesOn C passes before d τ Z stop
   goes_on m a f l same h stop e =
-      let stops : (asks && is_stop stop d.state.tick) ≡ false = ap (λ b. asks && b) e ∙ no_and asks in
+      let stops : (asks && is_stop stop d.state.tick) ≡ false = ap (λ b. asks && b) e ∙ never asks in
       let is = sym (sync_is C.plan stop before d false stops) in
       let quiet = answered_no asks d.state.tick (shown_at C.plan before d) C.start A.yes Z.yes A.left Z.left a m.quiet.yes m.quiet.left in
       let all : Matches C passes (finished C.plan before false d) τ Z = record {
@@ -141,12 +143,8 @@ module _ (C : Basis) (passes : Passes) (before : Option ℕ) (d : SessionData) (
         last = l ∙ m.quiet.last;
         yes = subst (λ y. Rose y Z.yes) m.quiet.yes yes.1.yes;
         asked = yes.0;
-        question = subst (λ n. IsLast C.start.left n) (shown_questions (is_due C.plan before d.state.tick || not (is_running C.plan d.state)) d) (left_last C.start.left (length (shown_at C.plan before d).questions) A.left Z.left m.quiet.left yes.1.counted);
+        question = last_shown (is_due C.plan before d.state.tick || not (is_running C.plan d.state)) d C.start.left A.left Z.left m.quiet.left yes.1.counted;
       }
-    where
-      shown_questions : (b : Bool) (e : SessionData) → length (with_snapshot b e).questions ≡ length e.questions
-      shown_questions true e = refl
-      shown_questions false e = refl
 
 -- ---- broken off
 
@@ -157,40 +155,44 @@ told_grows false tick d = grows_none d
 end_grows : (plan : Plan) (before : Option ℕ) (stops : Bool) (d : SessionData) → GrowsTo (saved_at plan before stops d) (finished plan before stops d)
 end_grows plan before stops d = let g = grows_none (saved_at plan before stops d) in record { written = g.written; trail = g.trail; questions = g.questions }
 
-pub broken_on : (C : Basis) (passes : Passes) (d e : SessionData) (Z : World) → GrowsTo d e → IsBrokenIn C passes d Z → IsBrokenIn C passes e Z
-broken_on C passes d e Z g h = record { left = λ f k told. h.left f (grows_on d e f g k) told }
+pub broken_on : (C : Basis) (passes : Passes) (d e : SessionData) (fault : Option (List ℕ)) (Z : World) → GrowsTo d e → IsBrokenIn C passes d fault Z → IsBrokenIn C passes e fault Z
+broken_on C passes d e fault Z g h = record { going = λ f k. h.going f (grows_on d e f g k) }
 
-module _ (C : Basis) (passes : Passes) (before : Option ℕ) (d : SessionData) (Z : World) where
+module _ (C : Basis) (passes : Passes) (before : Option ℕ) (d : SessionData) (fault : Option (List ℕ)) (Z : World) where
   -- in the snapshot
-  pub breaks_showing : Z.yes ≡ C.start.yes → IsBrokenIn C passes (shown_at C.plan before d) Z → SyncBreaks C passes before d false Z
+  pub breaks_showing : Z.yes ≡ C.start.yes → IsBrokenIn C passes (shown_at C.plan before d) fault Z → SyncBreaks C passes before d false fault Z
   breaks_showing y h =
-      let stops : (asks_at before (is_running C.plan d.state) && false) ≡ false = no_and (asks_at before (is_running C.plan d.state)) in
+      let stops : (asks_at before (is_running C.plan d.state) && false) ≡ false = never (asks_at before (is_running C.plan d.state)) in
       let told = told_at C.plan before d in
       let grows : GrowsTo (shown_at C.plan before d) (finished C.plan before false d) =
       grows_on (shown_at C.plan before d) (saved_at C.plan before false d) (finished C.plan before false d)
       (grows_on (shown_at C.plan before d) told (saved_at C.plan before false d) (told_grows (asks_at before (is_running C.plan d.state)) d.state.tick (shown_at C.plan before d)) (restart_grows (is_kept C.plan d.state || false) told))
       (end_grows C.plan before false d) in
       record {
-        yes = y;
-        left = subst (λ e. IsBrokenIn C passes e Z) (sym (sync_is C.plan None before d false stops)) (broken_on C passes (shown_at C.plan before d) (finished C.plan before false d) Z grows h);
+        answered = y;
+        broken = subst (λ e. IsBrokenIn C passes e fault Z) (sym (sync_is C.plan None before d false stops)) (broken_on C passes (shown_at C.plan before d) (finished C.plan before false d) fault Z grows h);
       }
 
   -- in the restart file
   pub breaks_saving : (shown : StateData) (A : World) (answer : Bool) → Matches C passes (shown_at C.plan before d) shown A → IsAnswer (asks_at before (is_running C.plan d.state)) answer A.yes Z.yes A.left Z.left →
-      IsBrokenIn C passes (saved_at C.plan before answer d) Z → SyncBreaks C passes before d answer Z
+      IsBrokenIn C passes (saved_at C.plan before answer d) fault Z → SyncBreaks C passes before d answer fault Z
   breaks_saving shown A false m a h =
-      let stops : (asks_at before (is_running C.plan d.state) && false) ≡ false = no_and (asks_at before (is_running C.plan d.state)) in
+      let stops : (asks_at before (is_running C.plan d.state) && false) ≡ false = never (asks_at before (is_running C.plan d.state)) in
       let quiet = answered_no (asks_at before (is_running C.plan d.state)) d.state.tick (shown_at C.plan before d) C.start A.yes Z.yes A.left Z.left a m.quiet.yes m.quiet.left in
       record {
-        yes = quiet.0;
-        left = subst (λ e. IsBrokenIn C passes e Z) (sym (sync_is C.plan None before d false stops)) (broken_on C passes (saved_at C.plan before false d) (finished C.plan before false d) Z (end_grows C.plan before false d) h);
+        answered = quiet.0;
+        broken = subst (λ e. IsBrokenIn C passes e fault Z) (sym (sync_is C.plan None before d false stops)) (broken_on C passes (saved_at C.plan before false d) (finished C.plan before false d) fault Z (end_grows C.plan before false d) h);
       }
   breaks_saving shown A true m a h =
       let yes = answered_yes (asks_at before (is_running C.plan d.state)) A.yes Z.yes A.left Z.left a in
       let stops : (asks_at before (is_running C.plan d.state) && is_stop (Some d.state.tick) d.state.tick) ≡ true = (λ i. yes.0 i && same_tick d.state.tick i) in
       record {
-        yes = subst (λ y. Rose y Z.yes) m.quiet.yes yes.1.yes;
-        left = subst (λ e. IsBrokenIn C passes e Z) (sym (sync_is C.plan (Some d.state.tick) before d true stops)) (broken_on C passes (saved_at C.plan before true d) (finished C.plan before true d) Z (end_grows C.plan before true d) h);
+        answered = (
+          subst (λ y. Rose y Z.yes) m.quiet.yes yes.1.yes,
+          yes.0,
+          last_shown (is_due C.plan before d.state.tick || not (is_running C.plan d.state)) d C.start.left A.left Z.left m.quiet.left yes.1.counted,
+        );
+        broken = subst (λ e. IsBrokenIn C passes e fault Z) (sym (sync_is C.plan (Some d.state.tick) before d true stops)) (broken_on C passes (saved_at C.plan before true d) (finished C.plan before true d) fault Z (end_grows C.plan before true d) h);
       }
 
 -- ---- what the tests of the code are
@@ -226,7 +228,7 @@ sync_ends C passes before d shown τ A Z true m a f l s h = halts C passes befor
 -- the question that is asked there is one of the session
 pub sync_asks : (plan : Plan) (before : Option ℕ) (d : SessionData) → asks_at before (is_running plan d.state) ≡ true → (synchronised plan None before d).questions ≡ d.questions ++ d.state.tick ∷ []
 sync_asks plan before d e =
-    ap (λ (x : SessionData). x.questions) (sync_is plan None before d false (no_and (asks_at before (is_running plan d.state)))) ∙
+    ap (λ (x : SessionData). x.questions) (sync_is plan None before d false (never (asks_at before (is_running plan d.state)))) ∙
     restart_questions (is_kept plan d.state || false) (told_at plan before d) ∙
     (λ i. (told_of (e i) d.state.tick (shown_at plan before d)).questions) ∙
     ap (λ xs. xs ++ d.state.tick ∷ []) (snapshot_questions (is_due plan before d.state.tick || not (is_running plan d.state)) d)

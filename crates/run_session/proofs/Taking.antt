@@ -7,6 +7,7 @@ use Rattle.std.proofs.Math.Pow.{pow_mono}
 use Rattle.std.proofs.Math.Nat.{lt-div-mul-add, le-mul_of_pos_right}
 use Rattle.nbody_model.specs.Evolve.{is_empty}
 use Rattle.nbody_model.specs.Setups.{SetupData}
+use Rattle.model_laws.proofs.Resumed.{never}
 use Rattle.nbody_model.specs.States.{StateData}
 use Rattle.nbody_model.specs.Session.{Plan, SessionData, raised64, is_running}
 use Rattle.param_file.specs.Settings.{ParamsData, IsParams, setup_of}
@@ -21,15 +22,16 @@ use Rattle.run_session.specs.declared.step.Made.{Made}
 use Rattle.run_session.specs.declared.step.Made.TheVariants as made
 use Rattle.run_session.specs.declared.turn.Turn.{Turn}
 use Rattle.run_session.specs.declared.turn.Turn.TheVariants as turns
-use Rattle.run_session.specs.Own.{Own, OwnTexts, Stands, followed}
-use Rattle.run_session.specs.RunEnds.{World}
-use Rattle.run_session.specs.Stages.{KeepsOwn, world, Basis, IsAtSync, IsLater, IsFrom, IsWhole}
+use Rattle.run_session.specs.Causes.{IsAmong}
+use Rattle.run_session.specs.Own.{Own, OwnTexts, Stands, followed, own_names}
+use Rattle.run_session.specs.Stages.{KeepsOwn, Basis, IsAtSync, IsLater, IsFrom, IsWhole}
 use Rattle.run_session.specs.Steps.{StepMade, step_end, refusal_of}
 use Rattle.run_session.specs.Turned.{CanFollow, Comes, FollowsMade, GoesLater, HasBroken, IsMadeIn, AreStanding}
 use Rattle.run_session.proofs.Turns.{is_over}
 use Rattle.run_session.proofs.Writing.{text_of, there_stands}
 use Rattle.run_session.proofs.OwnChanges.{are_there}
 use Rattle.run_session.proofs.Turning.{Appends, AppendsPart, at_rest, come_breaks, whole_comes, whole_breaks, rest_is, rest_files, rest_question, rest_breaks, out_ends, out_breaks}
+use Rattle.run_session.specs.Worlds.{World, world}
 
 -- ---- numbers
 
@@ -54,10 +56,6 @@ few_steps p σ h = let w = pow_pos p.top_bin in let m = le-mul_of_pos_right {m =
 raised_once : (n : ℕ) → n < 2 ^ 40 → raised64 n 1 ≡ n + 1
 raised_once n h = mod-eq_of_lt (omega (arith, h))
 
-no_more : (b : Bool) → (b && false) ≡ false
-no_more true = refl
-no_more false = refl
-
 not_empty : (xs : List ℕ) → 1 ≤ length xs → is_empty xs ≡ false
 not_empty [] h = absurd (omega (arith, h))
 not_empty (x ∷ xs) h = refl
@@ -70,7 +68,7 @@ going p plan σ s (inl k) = by (is_running plan σ) refl
     runs = lt-ltb σ.tick plan.rules.gravity.setup.time_max (subst (λ (x : SetupData). σ.tick < x.time_max) (sym s) k.running)
 
     by : (b : Bool) → is_running plan σ ≡ b → is_over plan σ ≡ false
-    by b e = (λ i. is_empty σ.depths && not (runs i)) ∙ no_more (is_empty σ.depths)
+    by b e = (λ i. is_empty σ.depths && not (runs i)) ∙ never (is_empty σ.depths)
 going p plan σ s (inr k) = (λ i. full i && not (is_running plan σ))
   where
     full : is_empty σ.depths ≡ false
@@ -132,17 +130,22 @@ module _ (C : Basis) (passes : Passes) (sessions : Option ℕ → SessionData) (
   made_in (made.Refused why) m k a f l = out_ends C passes sessions σ known (refusal_of why) log A Z (comes None tt) over m.0 k a f l m.1
 
   -- a first part of them does
-  pub made_breaks : (m : Made) → StepMade C.plan C.own passes known σ log A Z m → Z.closed ≡ A.closed → AppendsPart C log A Z → HasBroken C passes sessions Z
-  made_breaks (made.Whole next) m k a =
-      record { stop = None; yes = m.yes ∙ (quiet_at None tt).1.1; left = whole_breaks C passes sessions σ next.state known log A Z (comes None tt) over (m.whole None tt) k a }
-  made_breaks (made.Rested τ) m k a =
-      record { stop = Some τ.tick; yes = subst (λ y. Rose y Z.yes) (quiet_at None tt).1.1 m.2.yes; left = rest_breaks C passes sessions σ τ known log A Z (comes (Some τ.tick) m.0) over m.2 k a }
-  made_breaks (made.Refused why) m k a =
-      record { stop = None; yes = m.1 ∙ (quiet_at None tt).1.1; left = out_breaks C passes sessions σ known (refusal_of why) log A Z (comes None tt) over m.0 k a }
+  pub made_breaks : (fault : Option (List ℕ)) → IsAmong (own_names C.own) fault → (m : Made) → StepMade C.plan C.own passes known σ log A Z m → Z.closed ≡ A.closed → AppendsPart C log A Z → HasBroken C passes sessions fault Z
+  made_breaks fault b (made.Whole next) m k a =
+      record { stop = None; question = m.yes ∙ (quiet_at None tt).1.1; broken = whole_breaks C passes sessions σ next.state known log A Z fault b (comes None tt) over (m.whole None tt) k a }
+  made_breaks fault b (made.Rested τ) m k a =
+      let h = comes (Some τ.tick) m.0 in
+      record {
+        stop = Some τ.tick;
+        question = (subst (λ y. Rose y Z.yes) (quiet_at None tt).1.1 m.2.yes, rest_question C passes sessions σ τ known log A Z h over m.2 (comes None tt));
+        broken = rest_breaks C passes sessions σ τ known log A Z h over m.2 fault b k a;
+      }
+  made_breaks fault b (made.Refused why) m k a =
+      record { stop = None; question = m.1 ∙ (quiet_at None tt).1.1; broken = out_breaks C passes sessions σ known (refusal_of why) log A Z (comes None tt) over m.0 fault b k a }
 
   -- there was no memory for the step
-  pub none_breaks : Z.files ≡ A.files → Z.closed ≡ A.closed → Z.yes ≡ A.yes → HasBroken C passes sessions Z
-  none_breaks f k y = record { stop = None; yes = y ∙ (quiet_at None tt).1.1; left = come_breaks C passes sessions σ known A Z (comes None tt) f k }
+  pub none_breaks : Z.files ≡ A.files → Z.closed ≡ A.closed → Z.yes ≡ A.yes → HasBroken C passes sessions None Z
+  none_breaks f k y = record { stop = None; question = y ∙ (quiet_at None tt).1.1; broken = come_breaks C passes sessions σ known A Z (comes None tt) f k }
 
 -- ---- what is so whatever the session is
 

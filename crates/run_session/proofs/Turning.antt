@@ -1,30 +1,33 @@
 -- A session after a base step, by how that step ended.
-use Rattle.std.proofs.Common.{◌==◌, ◌≡◌, ◌<◌, ◌≤◌, ℕ, suc, ◌+◌, ◌-◌, ◌*◌, ◌^◌, Bool, true, false, cond, not, ◌&&◌, IsTrue, List, [], ◌∷◌, ◌++◌, length, slice_index, Option, Some, None, refl, ap, sym, ◌∙◌, subst, arith, append_assoc}
+use Rattle.std.proofs.Common.{◌==◌, ◌≡◌, ◌<◌, ◌≤◌, ℕ, suc, ◌+◌, ◌-◌, ◌*◌, ◌^◌, Bool, true, false, cond, not, ◌&&◌, IsTrue, List, [], ◌∷◌, ◌++◌, length, Option, Some, None, refl, ap, sym, ◌∙◌, subst, arith, append_assoc}
 use Rattle.std.proofs.lemmas.Bool.{true≢false, false≢true, ltb-true, eqb-true}
 use Rattle.std.proofs.lemmas.List.{length-append}
 use Rattle.store_io.specs.Files.{Files}
 use Rattle.store_io.specs.Causes.{Rose}
 use Rattle.nbody_model.specs.Evolve.{Happening, Progress, Refusal, rests_of, is_empty}
 use Rattle.nbody_model.specs.States.{StateData}
-use Rattle.nbody_model.specs.Session.{Plan, SessionData, End, Stopped, OutOfRange, Restart, raised64, asked, is_running, advanced, with_trail, with_restart, base_step, synchronised, session_from, is_done, is_stop}
+use Rattle.nbody_model.specs.Session.{Plan, SessionData, End, Stopped, OutOfRange, Restart, raised64, kept, asked, is_running, advanced, with_trail, with_restart, base_step, synchronised, session_from, is_done, is_stop}
 use Rattle.nbody_model.specs.Passes.{Passes}
-use Rattle.run_session.specs.Own.{OwnTexts, Stands, StandsPart, followed}
-use Rattle.run_session.specs.Outputs.{with_written, session_texts}
-use Rattle.run_session.specs.RunEnds.{World, IsAnsweredYes}
+use Rattle.param_file.specs.Settings.{ParamsData}
+use Rattle.run_session.specs.Causes.{IsAmong}
+use Rattle.run_session.specs.Own.{Own, OwnTexts, Stands, StandsPart, followed, own_names}
+use Rattle.run_session.specs.Outputs.{HoldsParts, file_name, with_written, session_texts}
+use Rattle.run_session.specs.Broken.{IsGoing, begun_texts}
+use Rattle.run_session.specs.RunEnds.{IsAnsweredYes}
 use Rattle.run_session.specs.Stages.{Basis, IsFirst, GrowsTo, HasFiles, IsQuietly, IsLeft, IsLastOf, IsLogged, HasCome, IsAtSync, HasStopped, IsBrokenIn, IsWhole, IsAtRest, IsOut}
 use Rattle.run_session.proofs.Turns.{is_over, goes_on, synced, refused, turn_going, turn_refused, turn_resting}
 use Rattle.run_session.proofs.FirstParts.{grows_none, grows_on, restart_grows, session_grows, synced_grows, goes_on_grows}
-use Rattle.std.proofs.Math.Seq.{get_or-append_seam}
 use Rattle.step_engine.specs.Ends.{trail_of}
-use Rattle.run_session.specs.Outputs.{LeavesPart}
-use Rattle.run_session.specs.Stages.{HasEnded, RestsIn, WritesFile, WritesPart, Matches, GoesOn, IsHalted, IsLast, IsLater, IsFrom, SameTimes, SyncEnds, SyncBreaks, onwards}
+use Rattle.model_laws.specs.Resumed.{SameTimes}
+use Rattle.run_session.specs.Stages.{HasEnded, RestsIn, WritesFile, WritesPart, Matches, GoesOn, IsHalted, IsLast, IsLater, IsFrom, SyncEnds, SyncBreaks, asks_at, onwards}
 use Rattle.run_session.specs.Turned.{Comes, ComesToSync, HasBroken}
 use Rattle.run_session.proofs.Matching.{restart_files, restart_breaks}
 use Rattle.run_session.proofs.Syncing.{broken_on, sync_asks}
 use Rattle.run_session.proofs.Breaking.{breaks_here, breaks_part}
 use Rattle.run_session.proofs.Pauses.{base_rests, pause_rests, pause_grows}
-use Rattle.run_session.proofs.Questions.{EndsIn, left_on, answered_yes}
+use Rattle.run_session.proofs.Questions.{EndsIn, left_on, answered_yes, last_question}
 use Rattle.run_session.proofs.ToldTexts.{passes_length, passes_more, stands_logged, parts_logged}
+use Rattle.run_session.specs.Worlds.{World}
 
 -- ---- the files after a step
 
@@ -46,8 +49,8 @@ module _ (C : Basis) (passes : Passes) (d : SessionData) (trail : List Happening
     closed = λ told. k ∙ h.closed told;
   }
 
-  pub breaks_after : HasFiles C passes d A → IsLogged C.own passes trail A.state Z.state log → Z.closed ≡ A.closed → AppendsPart C log A Z → IsBrokenIn C passes (with_trail trail d) Z
-  breaks_after h l k a = breaks_part C passes (with_trail trail d) Z (h.events ++ l.events) Z.state
+  pub breaks_after : (fault : Option (List ℕ)) → IsAmong (own_names C.own) fault → HasFiles C passes d A → IsLogged C.own passes trail A.state Z.state log → Z.closed ≡ A.closed → AppendsPart C log A Z → IsBrokenIn C passes (with_trail trail d) fault Z
+  breaks_after fault b h l k a = breaks_part C passes (with_trail trail d) fault Z (h.events ++ l.events) Z.state b
       (passes_more passes d trail C.start.state h.events A.state l.events Z.state h.found l.found)
       (λ told. parts_logged C.own d trail h.events l.events log (with_written C.params d.written C.start.files) Z.files (passes_length passes (asked d) C.start.state h.events A.state h.found) l.same
       (a (session_texts d h.events) (with_written C.params d.written C.start.files) told (h.files told)))
@@ -123,13 +126,13 @@ module _ (C : Basis) (passes : Passes) (sessions : Option ℕ → SessionData) (
       }
 
   -- what was kept of it couldn't be put into the files
-  pub whole_breaks : HasCome C passes sessions σ known A None → is_over C.plan σ ≡ false → IsWhole C.plan C.own passes known σ τ log A Z None → Z.closed ≡ A.closed → AppendsPart C log A Z → IsBrokenIn C passes (sessions None) Z
-  whole_breaks h over w k a =
+  pub whole_breaks : (fault : Option (List ℕ)) → IsAmong (own_names C.own) fault → HasCome C passes sessions σ known A None → is_over C.plan σ ≡ false → IsWhole C.plan C.own passes known σ τ log A Z None → Z.closed ≡ A.closed → AppendsPart C log A Z → IsBrokenIn C passes (sessions None) fault Z
+  whole_breaks fault b h over w k a =
       let d = in_state σ h.d in
       let same = come_is C passes sessions σ known A None h over ∙ turn_going (h.n - 1) C.plan None known d over w.p w.is in
       let grows : GrowsTo (with_trail w.p.trail d) (sessions None) = subst (λ s. GrowsTo (with_trail w.p.trail d) s) (sym same)
       (grows_on (with_trail w.p.trail d) (synced C.plan None d w.p) (goes_on (h.n - 1) C.plan None (synced C.plan None d w.p)) (synced_grows C.plan None d w.p) (goes_on_grows (h.n - 1) C.plan None (synced C.plan None d w.p))) in
-      broken_on C passes (with_trail w.p.trail d) (sessions None) Z grows (breaks_after C passes d w.p.trail log A Z (come_files C passes sessions σ known A None h) w.logged k a)
+      broken_on C passes (with_trail w.p.trail d) (sessions None) fault Z grows (breaks_after C passes d w.p.trail log A Z fault b (come_files C passes sessions σ known A None h) w.logged k a)
 
 -- ---- a step that rests
 
@@ -140,10 +143,6 @@ rests_as C τ p d = record (with_trail p.trail d) { state = τ; states = d.state
 last_of : (left : Option ℕ) (tick : ℕ) (rests front : List ℕ) → rests ≡ front ++ tick ∷ [] → IsLastOf left rests → EndsIn left tick rests
 last_of None tick rests front e h = record { front = front; is = e; count = tt }
 last_of (Some l) tick rests front e h = let n = ap length e ∙ length-append front (tick ∷ []) in record { front = front; is = e; count = omega (arith, h, n) }
-
-asked_yes : (left : Option ℕ) (now : Option ℕ) (tick : ℕ) (before ticks whole : List ℕ) → IsLeft left (length before) now → EndsIn now tick ticks → IsFirst (before ++ ticks) whole → IsAnsweredYes left whole tick
-asked_yes None now tick before ticks whole h e f = tt
-asked_yes (Some l) now tick before ticks whole h e f = answered_yes l now tick before ticks whole h e f
 
 module _ (C : Basis) (passes : Passes) (sessions : Option ℕ → SessionData) (σ τ : StateData) (known : Bool) (log : OwnTexts) (A Z : World) (stopped_at : HasCome C passes sessions σ known A (Some τ.tick)) (over : is_over C.plan σ ≡ false) (r : IsAtRest C.plan C.own passes known σ τ log A Z) where
   abbrev pub at_rest : SessionData
@@ -165,7 +164,7 @@ module _ (C : Basis) (passes : Passes) (sessions : Option ℕ → SessionData) (
       let ends = last_of A.left τ.tick (rests_of r.p.trail) (rests_of pause.front) (pause_rests τ.tick r.p τ.tick (trail_of (base_step C.plan None known σ)) pause) r.left in
       let grows = pause_grows τ.tick (h.n - 1) C.plan known d r.p τ.tick r.parts over r.is in
       subst (λ (s : SessionData). IsAnsweredYes C.start.left s.questions τ.tick) (sym (come_is C passes sessions σ known A None h over))
-      (asked_yes C.start.left A.left τ.tick d.questions (rests_of r.p.trail) (session_from (suc (h.n - 1)) C.plan None known d).questions h.matches.quiet.left ends grows.questions)
+      (answered_yes C.start.left A.left τ.tick d.questions (rests_of r.p.trail) (session_from (suc (h.n - 1)) C.plan None known d).questions h.matches.quiet.left ends grows.questions)
 
   -- it is stopped, once the restart file stands
   pub rest_stops : (τ' : StateData) (Y : World) → HasCome C passes sessions σ known A None → HasFiles C passes (with_restart true at_rest) Y → (with_restart true at_rest).state ≡ τ' → τ'.tick ≡ τ.tick →
@@ -183,12 +182,12 @@ module _ (C : Basis) (passes : Passes) (sessions : Option ℕ → SessionData) (
       }
 
   -- what was kept of it couldn't be put into the files
-  pub rest_breaks : Z.closed ≡ A.closed → AppendsPart C log A Z → IsBrokenIn C passes (sessions (Some τ.tick)) Z
-  rest_breaks k a =
+  pub rest_breaks : (fault : Option (List ℕ)) → IsAmong (own_names C.own) fault → Z.closed ≡ A.closed → AppendsPart C log A Z → IsBrokenIn C passes (sessions (Some τ.tick)) fault Z
+  rest_breaks fault b k a =
       let d = in_state σ stopped_at.d in
       let g : GrowsTo (with_trail r.p.trail d) at_rest = let n = grows_none (with_trail r.p.trail d) in record { written = n.written; trail = n.trail; questions = n.questions } in
-      broken_on C passes (with_trail r.p.trail d) (sessions (Some τ.tick)) Z (subst (λ s. GrowsTo (with_trail r.p.trail d) s) (sym rest_is) (grows_on (with_trail r.p.trail d) at_rest (with_restart true at_rest) g (restart_grows true at_rest)))
-      (breaks_after C passes d r.p.trail log A Z (come_files C passes sessions σ known A (Some τ.tick) stopped_at) r.logged k a)
+      broken_on C passes (with_trail r.p.trail d) (sessions (Some τ.tick)) fault Z (subst (λ s. GrowsTo (with_trail r.p.trail d) s) (sym rest_is) (grows_on (with_trail r.p.trail d) at_rest (with_restart true at_rest) g (restart_grows true at_rest)))
+      (breaks_after C passes d r.p.trail log A Z fault b (come_files C passes sessions σ known A (Some τ.tick) stopped_at) r.logged k a)
 
 -- ---- a step that is refused
 module _ (C : Basis) (passes : Passes) (sessions : Option ℕ → SessionData) (σ : StateData) (known : Bool) (why : Refusal) (log : OwnTexts) (A Z : World) (h : HasCome C passes sessions σ known A None) (over : is_over C.plan σ ≡ false) (r : IsOut C.plan C.own passes known σ why log A Z) where
@@ -206,19 +205,36 @@ module _ (C : Basis) (passes : Passes) (sessions : Option ℕ → SessionData) (
         quiet = still C h.d (refused d r.p why) (rests_of r.p.trail) A Z refl f l y r.left h.matches.quiet;
       })
 
-  pub out_breaks : Z.closed ≡ A.closed → AppendsPart C log A Z → IsBrokenIn C passes (sessions None) Z
-  out_breaks k a =
+  pub out_breaks : (fault : Option (List ℕ)) → IsAmong (own_names C.own) fault → Z.closed ≡ A.closed → AppendsPart C log A Z → IsBrokenIn C passes (sessions None) fault Z
+  out_breaks fault b k a =
       let d = in_state σ h.d in
       let g : GrowsTo (with_trail r.p.trail d) (refused d r.p why) = let n = grows_none (with_trail r.p.trail d) in record { written = n.written; trail = n.trail; questions = n.questions } in
-      broken_on C passes (with_trail r.p.trail d) (sessions None) Z (subst (λ s. GrowsTo (with_trail r.p.trail d) s) (sym out_is) g)
-      (breaks_after C passes d r.p.trail log A Z (come_files C passes sessions σ known A None h) r.logged k a)
+      broken_on C passes (with_trail r.p.trail d) (sessions None) fault Z (subst (λ s. GrowsTo (with_trail r.p.trail d) s) (sym out_is) g)
+      (breaks_after C passes d r.p.trail log A Z fault b (come_files C passes sessions σ known A None h) r.logged k a)
 
 -- ---- want of memory in a step
-pub come_breaks : (C : Basis) (passes : Passes) (sessions : Option ℕ → SessionData) (σ : StateData) (known : Bool) (A Z : World) → HasCome C passes sessions σ known A None → Z.files ≡ A.files → Z.closed ≡ A.closed → IsBrokenIn C passes (sessions None) Z
+
+same_going : (p : ParamsData) (o : Own) (passes : Passes) (told : Bool) (e : SessionData) (S A Z : World) → Z.files ≡ A.files → Z.closed ≡ A.closed → IsGoing p o passes told e None S A → IsGoing p o passes told e None S Z
+same_going p o passes told e S A Z f k x = record {
+  finished = x.finished;
+  later = x.later;
+  written = x.written;
+  blamed = tt;
+  forces = x.forces;
+  unasked = x.unasked;
+  events = x.events;
+  reached = x.reached;
+  order = x.order;
+  found = x.found;
+  files = λ t. subst (λ W. HoldsParts p o (begun_texts e x.forces x.events) x.finished x.later S.files W) (sym f) (x.files t);
+  closed = λ t. k ∙ x.closed t;
+}
+
+pub come_breaks : (C : Basis) (passes : Passes) (sessions : Option ℕ → SessionData) (σ : StateData) (known : Bool) (A Z : World) → HasCome C passes sessions σ known A None → Z.files ≡ A.files → Z.closed ≡ A.closed → IsBrokenIn C passes (sessions None) None Z
 come_breaks C passes sessions σ known A Z h f k =
-    let stay = breaks_here C passes h.d A h.matches.files in
-    broken_on C passes h.d (sessions None) Z (subst (λ s. GrowsTo h.d s) (sym h.same) (session_grows h.n C.plan None known h.d))
-    (record { left = λ e g told. subst (λ W. LeavesPart C.params C.own passes C.start.state e C.start.files W C.start.closed Z.closed) (sym f) (subst (λ n. LeavesPart C.params C.own passes C.start.state e C.start.files A.files C.start.closed n) (sym k) (stay.left e g told)) })
+    let stay = breaks_here C passes h.d None A tt h.matches.files in
+    broken_on C passes h.d (sessions None) None Z (subst (λ s. GrowsTo h.d s) (sym h.same) (session_grows h.n C.plan None known h.d))
+    (record { going = λ e g. same_going C.params C.own passes C.told e C.start A Z f k (stay.going e g) })
 
 -- ---- a synchronisation
 
@@ -230,11 +246,16 @@ goes_on_by n plan stop known e = by (is_done e.end)
     by true = session_grows n plan stop known e
     by false = grows_none e
 
-last_question : (left : Option ℕ) (questions : List ℕ) (tick : ℕ) (whole : List ℕ) → IsLast left (length questions) → IsFirst (questions ++ tick ∷ []) whole → IsAnsweredYes left whole tick
-last_question None questions tick whole h f = tt
-last_question (Some l) questions tick whole h f =
-    let long : length whole ≡ length questions + suc (length f.more) = ap length (f.is ∙ append_assoc questions (tick ∷ []) f.more) ∙ length-append questions (tick ∷ f.more) in
-    (omega (arith, long, h), ap (λ xs. slice_index xs l) (f.is ∙ append_assoc questions (tick ∷ []) f.more) ∙ ap (slice_index (questions ++ tick ∷ f.more)) h ∙ get_or-append_seam questions tick f.more 0)
+-- the question that was asked there is one of the session without a stop
+sync_question : (C : Basis) (passes : Passes) (sessions : Option ℕ → SessionData) (before : Option ℕ) (σ : StateData) (known : Bool) (A : World) (w : IsAtSync C passes sessions before σ known A None) → asks_at before (is_running C.plan w.d.state) ≡ true → IsLast C.start.left (length w.d.questions) →
+    IsAnsweredYes C.start.left (sessions None).questions σ.tick
+sync_question C passes sessions before σ known A w asks last =
+    let there : w.d.state.tick ≡ σ.tick = ap (λ (ρ : StateData). ρ.tick) w.matches.state in
+    let grows = goes_on_by w.n C.plan None known (synchronised C.plan None before w.d) in
+    let asked = sync_asks C.plan before w.d asks in
+    subst (λ u. IsAnsweredYes C.start.left (sessions None).questions u) there
+    (last_question C.start.left w.d.questions w.d.state.tick (sessions None).questions last
+    (subst (λ (x : SessionData). IsFirst (w.d.questions ++ w.d.state.tick ∷ []) x.questions) (sym w.same) (subst (λ xs. IsFirst xs (onwards w.n C.plan None known (synchronised C.plan None before w.d)).questions) asked grows.questions)))
 
 module _ (C : Basis) (passes : Passes) (sessions : Option ℕ → SessionData) (before : Option ℕ) (σ τ : StateData) (known : Bool) (A Z : World) where
   -- the session goes on
@@ -257,9 +278,6 @@ module _ (C : Basis) (passes : Passes) (sessions : Option ℕ → SessionData) (
       let is : sessions (Some τ.tick) ≡ e =
       ap (λ u. sessions (Some u)) tick ∙ h.same ∙ ap (λ u. onwards h.n C.plan (Some u) known (synchronised C.plan (Some u) before h.d)) (sym here) ∙
       (λ i. cond (is_done (s.end i)) (session_from h.n C.plan (Some h.d.state.tick) known e) e) in
-      let there : w.d.state.tick ≡ σ.tick = ap (λ (ρ : StateData). ρ.tick) w.matches.state in
-      let grows = goes_on_by w.n C.plan None known (synchronised C.plan None before w.d) in
-      let asked = sync_asks C.plan before w.d t.asked in
       record {
         state = subst (λ (x : SessionData). x.state ≡ τ) (sym is) s.state;
         end = subst (λ (x : SessionData). x.end ≡ Stopped) (sym is) s.end;
@@ -267,15 +285,13 @@ module _ (C : Basis) (passes : Passes) (sessions : Option ℕ → SessionData) (
         faults = s.faults;
         last = s.last;
         yes = s.yes;
-        question = subst (λ u. IsAnsweredYes C.start.left (sessions None).questions u) (there ∙ sym tick)
-            (last_question C.start.left w.d.questions w.d.state.tick (sessions None).questions t.question
-            (subst (λ (x : SessionData). IsFirst (w.d.questions ++ w.d.state.tick ∷ []) x.questions) (sym w.same) (subst (λ xs. IsFirst xs (onwards w.n C.plan None known (synchronised C.plan None before w.d)).questions) asked grows.questions)));
+        question = subst (λ u. IsAnsweredYes C.start.left (sessions None).questions u) (sym tick) (sync_question C passes sessions before σ known A w t.asked t.question);
       }
 
   -- it was broken off here
-  pub sync_breaks : (stop : Option ℕ) → (h : IsAtSync C passes sessions before σ known A stop) → IsBrokenIn C passes (synchronised C.plan stop before h.d) Z → IsBrokenIn C passes (sessions stop) Z
-  sync_breaks stop h b =
-      broken_on C passes (synchronised C.plan stop before h.d) (sessions stop) Z
+  pub sync_breaks : (stop : Option ℕ) (fault : Option (List ℕ)) → (h : IsAtSync C passes sessions before σ known A stop) → IsBrokenIn C passes (synchronised C.plan stop before h.d) fault Z → IsBrokenIn C passes (sessions stop) fault Z
+  sync_breaks stop fault h b =
+      broken_on C passes (synchronised C.plan stop before h.d) (sessions stop) fault Z
       (subst (λ s. GrowsTo (synchronised C.plan stop before h.d) s) (sym h.same) (goes_on_by h.n C.plan stop known (synchronised C.plan stop before h.d))) b
 
 -- ---- a synchronisation, whatever stop comes
@@ -311,16 +327,18 @@ module _ (C : Basis) (passes : Passes) (sessions : Option ℕ → SessionData) (
       let w = comes None tt in
       sync_stops C passes sessions before σ τ known A Z h w (s h.d h.matches) (s w.d w.matches) t.tick
 
-  pub syncs_break : (answer : Bool) → ((d : SessionData) → Matches C passes d σ A → SyncBreaks C passes before d answer Z) → HasBroken C passes sessions Z
-  syncs_break false s = let h = comes None tt in let b = s h.d h.matches in record { stop = None; yes = b.yes; left = sync_breaks C passes sessions before σ σ known A Z None h b.left }
-  syncs_break true s =
+  pub syncs_break : (answer : Bool) (fault : Option (List ℕ)) → ((d : SessionData) → Matches C passes d σ A → SyncBreaks C passes before d answer fault Z) → HasBroken C passes sessions fault Z
+  syncs_break false fault s = let h = comes None tt in let b = s h.d h.matches in record { stop = None; question = b.answered; broken = sync_breaks C passes sessions before σ σ known A Z None fault h b.broken }
+  syncs_break true fault s =
       let h = comes (Some σ.tick) (omega arith) in
+      let w = comes None tt in
       let b = s h.d h.matches in
+      let said = (s w.d w.matches).answered in
       let here : h.d.state.tick ≡ σ.tick = ap (λ (ρ : StateData). ρ.tick) h.matches.state in
       record {
         stop = Some σ.tick;
-        yes = b.yes;
-        left = sync_breaks C passes sessions before σ σ known A Z (Some σ.tick) h (subst (λ u. IsBrokenIn C passes (synchronised C.plan (Some u) before h.d) Z) here b.left);
+        question = (said.0, sync_question C passes sessions before σ known A w said.1 said.2);
+        broken = sync_breaks C passes sessions before σ σ known A Z (Some σ.tick) fault h (subst (λ u. IsBrokenIn C passes (synchronised C.plan (Some u) before h.d) fault Z) here b.broken);
       }
 
 -- ---- the restart file of a rest
@@ -346,9 +364,9 @@ module _ (C : Basis) (passes : Passes) (sessions : Option ℕ → SessionData) (
         question = subst (λ u. IsAnsweredYes C.start.left (sessions None).questions u) (sym tick) r.question;
       }
 
-  pub rest_cut : Z.yes ≡ A.yes → WritesPart C.params C.own (Restart τ.next_restart (record τ { next_restart = raised64 τ.next_restart 1 })) C.told A.files Z.files A.closed Z.closed → HasBroken C passes sessions Z
-  rest_cut y w = record {
+  pub rest_cut : (fault : Option (List ℕ)) → IsAmong (file_name C.params (Restart τ.next_restart (kept τ)) ∷ []) fault → Z.yes ≡ A.yes → WritesPart C.params C.own (Restart τ.next_restart (record τ { next_restart = raised64 τ.next_restart 1 })) C.told A.files Z.files A.closed Z.closed → HasBroken C passes sessions fault Z
+  rest_cut fault b y w = record {
     stop = Some τ.tick;
-    yes = subst (λ n. Rose C.start.yes n) (sym y) r.yes;
-    left = subst (λ s. IsBrokenIn C passes s Z) (sym r.is) (restart_breaks C passes r.d τ A Z r.state r.files w);
+    question = (subst (λ n. Rose C.start.yes n) (sym y) r.yes, r.question);
+    broken = subst (λ s. IsBrokenIn C passes s fault Z) (sym r.is) (restart_breaks C passes r.d τ fault A Z b r.state r.files w);
   }

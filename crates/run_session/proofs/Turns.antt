@@ -2,7 +2,7 @@
 use Rattle.std.proofs.Common.{◌≡◌, ℕ, zero, suc, ◌*◌, ◌^◌, Bool, true, false, cond, not, ◌&&◌, ◌||◌, List, [], ◌∷◌, ◌++◌, Option, Some, None, refl, ap, ◌∙◌}
 use Rattle.nbody_model.specs.Evolve.{Progress, Refusal, Stepped, Going, Refused, Resting, is_empty}
 use Rattle.nbody_model.specs.States.{StateData}
-use Rattle.run_session.specs.Stages.{SameTimes}
+use Rattle.model_laws.proofs.Resumed.{onward, stops_here, sync_done}
 use Rattle.nbody_model.specs.Session.{Plan, SessionData, Done, Stopped, OutOfRange, is_running, is_stop, is_due, is_kept, with_snapshot, with_restart, synchronised, advanced, rested, with_trail, base_step, is_done, session_from}
 
 -- ---- what a session makes of a base step's end
@@ -22,11 +22,6 @@ stopped d p tick Fs = let ρ = rested p tick Fs d.state in with_restart true (re
 -- it goes on where it isn't stopped
 abbrev pub goes_on : ℕ → Plan → Option ℕ → SessionData → SessionData
 goes_on n plan stop e = cond (is_done e.end) (session_from n plan stop true e) e
-
-abbrev pub onward : ℕ → Plan → Option ℕ → SessionData → Stepped → SessionData
-onward n plan stop d (Going p) = goes_on n plan stop (synced plan stop d p)
-onward n plan stop d (Refused p x) = refused d p x
-onward n plan stop d (Resting p tick Fs) = stopped d p tick Fs
 
 -- nothing is left to be done: a base step ended, and the last tick is reached
 abbrev pub is_over : Plan → StateData → Bool
@@ -72,51 +67,10 @@ module _ (n : ℕ) (plan : Plan) (stop : Option ℕ) (known : Bool) (d : Session
 
 -- ---- where a synchronisation stops
 
--- it could be stopped here, and this is the tick to stop at
-abbrev pub stops_here : Plan → Option ℕ → Option ℕ → SessionData → Bool
-stops_here plan stop before d =
-    let asks : Bool = elim before [ None ↦ false | Some w ↦ is_running plan d.state ] in
-    asks && is_stop stop d.state.tick
-
 pub sync_end : (plan : Plan) (stop before : Option ℕ) (d : SessionData) → (synchronised plan stop before d).end ≡ cond (stops_here plan stop before d) Stopped Done
 unfolding synchronised
 sync_end plan stop before d = refl
 
-never : (b : Bool) → cond (b && false) Stopped Done ≡ Done
-never true = refl
-never false = refl
-
-pub sync_done : (plan : Plan) (before : Option ℕ) (d : SessionData) → (synchronised plan None before d).end ≡ Done
-unfolding synchronised
-sync_done plan before d = never (elim before [ None ↦ false | Some w ↦ is_running plan d.state ])
-
 -- without a stop a session goes on after each base step
 pub turn_none : (n : ℕ) (plan : Plan) (known : Bool) (d : SessionData) → is_over plan d.state ≡ false → (p : Progress) → base_step plan None known d.state ≡ Going p → session_from (suc n) plan None known d ≡ session_from n plan None true (synced plan None d p)
 turn_none n plan known d h p e = turn_on n plan None known d h p e (sync_done plan (Some (d.state.steps * 2 ^ plan.rules.gravity.setup.top_bin)) (record (with_trail p.trail d) { state = advanced plan p d.state }))
-
--- ---- a synchronisation keeps the times
-
-snapshot_times : (b : Bool) (d : SessionData) → SameTimes (with_snapshot b d).state d.state
-snapshot_times true d = record { depths = refl; steps = refl; tick = refl; bodies = refl }
-snapshot_times false d = record { depths = refl; steps = refl; tick = refl; bodies = refl }
-
-restart_times : (b : Bool) (d : SessionData) → SameTimes (with_restart b d).state d.state
-restart_times true d = record { depths = refl; steps = refl; tick = refl; bodies = refl }
-restart_times false d = record { depths = refl; steps = refl; tick = refl; bodies = refl }
-
-asked_times : (b : Bool) (tick : ℕ) (d : SessionData) → SameTimes (cond b (record d { questions = d.questions ++ tick ∷ [] }) d).state d.state
-asked_times true tick d = record { depths = refl; steps = refl; tick = refl; bodies = refl }
-asked_times false tick d = record { depths = refl; steps = refl; tick = refl; bodies = refl }
-
-both_times : (ρ σ τ : StateData) → SameTimes ρ σ → SameTimes σ τ → SameTimes ρ τ
-both_times ρ σ τ a b = record { depths = a.depths ∙ b.depths; steps = a.steps ∙ b.steps; tick = a.tick ∙ b.tick; bodies = a.bodies ∙ b.bodies }
-
-pub sync_times : (plan : Plan) (stop before : Option ℕ) (d : SessionData) → SameTimes (synchronised plan stop before d).state d.state
-unfolding synchronised
-sync_times plan stop before d =
-    let asks : Bool = elim before [ None ↦ false | Some w ↦ is_running plan d.state ] in
-    let bd = is_due plan before d.state.tick || not (is_running plan d.state) in
-    let sd = with_snapshot bd d in
-    let td : SessionData = cond asks (record sd { questions = sd.questions ++ d.state.tick ∷ [] }) sd in
-    let kd = is_kept plan d.state || (asks && is_stop stop d.state.tick) in
-    both_times (with_restart kd td).state td.state d.state (restart_times kd td) (both_times td.state sd.state d.state (asked_times asks d.state.tick sd) (snapshot_times bd d))

@@ -3,7 +3,7 @@ use Rattle.std.specs.Prelude.{Bool}
 use Rattle.std.specs.Option.{option_copied}
 use Rattle.nbody_model.specs.Tables.{Gravity}
 use Rattle.run_session.specs.declared.course.Course.{Course}
-use Rattle.run_session.specs.RunEnds.{World}
+use Rattle.run_session.specs.Worlds.{World}
 use Rattle.run_session.specs.Stages.{Basis, basis}
 
 -- by forces that stand for this

@@ -8,6 +8,10 @@ pub mod RunEnds
 pub mod Spaced
 pub mod Stages
 pub mod Courses
+pub mod Worlds
+pub mod Spans
+pub mod Broken
+pub mod Promises
 pub mod Steps
 pub mod Turned
 pub mod Sessions

@@ -1,16 +1,16 @@
 -- What a session leaves: the files that it writes one after another, and those that it keeps open.
-use Rattle.std.specs.Prelude.{◌≡◌, ◌⊎◌, ℕ, List, [], ◌∷◌, ◌++◌, length, take, map, fold, codes, Bool, Option, Some, IfSome, if◌then◌else◌}
+use Rattle.std.specs.Prelude.{◌≡◌, ◌≤◌, ◌⊎◌, ℕ, List, [], ◌∷◌, ◌++◌, length, take, drop, map, fold, codes, Bool, IsTrue, Option, Some, IfSome, if◌then◌else◌}
 use Rattle.std.specs.List.{zip}
 use Rattle.std.specs.Str.{bytes_eq}
 use Rattle.store_io.specs.Files.{Files}
 use Rattle.nbody_model.specs.declared.field.Event.{Event}
 use Rattle.nbody_model.specs.Bodies.{BodyData}
-use Rattle.nbody_model.specs.Passes.{PassesAll, Passes}
 use Rattle.nbody_model.specs.Session.{SessionData, Written, records, asked, bins}
 use Rattle.nbody_model.specs.SessionFiles.{name_of, bytes_of}
 use Rattle.nbody_model.specs.Texts.{kick_text, trace_text, open_bins_text}
 use Rattle.param_file.specs.Settings.{ParamsData, setup_of}
-use Rattle.run_session.specs.Own.{Own, OwnTexts, Stands, OpensPart, HasPart, IsOther, followed, own_names}
+use Rattle.run_session.specs.Causes.{IsAmong}
+use Rattle.run_session.specs.Own.{Own, OwnTexts, Stands, HasPart, IsOther, followed, own_names}
 
 -- ---- files that are written one after another
 
@@ -63,25 +63,32 @@ pub record IsNext (p : ParamsData) (later : List Written) (name : List ℕ) (fil
   pub named : name ≡ file_name p next
   pub part : HasPart file (file_bytes p next)
 
--- the open files hold first parts of their texts, by forces that were found so far; every other file is as it was left by
--- the finished ones, or is the next one
-pub record IsBroken (p : ParamsData) (o : Own) (passes : Passes) (state : List ℕ) (d : SessionData) (finished later : List Written) (old new : Files) : Type 0 where
-  pub forces : List (List BodyData)
-  pub unasked : List (List BodyData)
-  pub events : List (List Event)
-  pub reached : List ℕ
-  pub order : asked d ≡ forces ++ unasked
-  pub found : PassesAll passes forces state events reached
-  pub kicks : HasPart (new o.kicks) (kick_text (records d))
-  pub trace : IfSome o.trace (λ n. HasPart (new n) (trace_text (found_in forces events)))
-  pub bins : IfSome o.bins (λ n. HasPart (new n) (followed (session_texts d events) (end_mark Bool.true)).bins)
+-- the open files hold first parts of these texts; every other file is as the finished ones left it, or is the next one
+pub record HoldsParts (p : ParamsData) (o : Own) (t : OwnTexts) (finished later : List Written) (old new : Files) : Type 0 where
+  pub kicks : HasPart (new o.kicks) t.kicks
+  pub trace : IfSome o.trace (λ n. HasPart (new n) t.trace)
+  pub bins : IfSome o.bins (λ n. HasPart (new n) t.bins)
   pub others : (q : List ℕ) → IsOther o q → (new q ≡ with_written p finished old q) ⊎ IsNext p later q (new q)
 
--- the finished files are the first ones of the session, whole; then, of those that are kept open, some
-pub record LeavesPart (p : ParamsData) (o : Own) (passes : Passes) (state : List ℕ) (d : SessionData) (old new : Files) (closed_old closed_new : List (List ℕ)) : Type 0 where
-  pub finished : List Written
-  pub later : List Written
-  pub order : d.written ≡ finished ++ later
+-- ---- after a fault or want of memory at the end
+
+-- so many bytes of the end mark
+abbrev pub begun_mark : ℕ → Bool → OwnTexts
+begun_mark mark done = record { kicks = []; trace = []; bins = take mark (end_mark done).bins }
+
+-- they hold these texts and a part of the end mark, which is whole once one of them is finished
+pub record IsMarked (o : Own) (t : OwnTexts) (done : Bool) (ended : ℕ) (W files : Files) : Type 0 where
+  pub mark : ℕ
+  pub whole : (ended ≡ 0) ⊎ (8 ≤ mark)
+  pub stands : Stands o (followed t (begun_mark mark done)) W files
+
+-- of those that are kept open the first ones were finished, and the one that couldn't be is among the others
+pub record EndsSome (o : Own) (told : Bool) (fault : Option (List ℕ)) (closed_old closed_new : List (List ℕ)) : Type 0 where
   pub ended : ℕ
-  pub closed : closed_new ≡ (closed_old ++ map (file_name p) finished) ++ take ended (own_names o)
-  pub files : ((finished ≡ []) × OpensPart o old new) ⊎ IsBroken p o passes state d finished later old new
+  pub blamed : IsAmong (drop ended (own_names o)) fault
+  pub closed : IsTrue told → closed_new ≡ closed_old ++ take ended (own_names o)
+
+-- the same, with the end mark where the run is done
+pub record FinishesSome (o : Own) (done told : Bool) (fault : Option (List ℕ)) (old new : Files) (closed_old closed_new : List (List ℕ)) : Type 0 where
+  pub some : EndsSome o told fault closed_old closed_new
+  pub files : (t : OwnTexts) (W : Files) → IsTrue told → Stands o t W old → IsMarked o t done some.ended W new

@@ -1,4 +1,4 @@
--- A whole run: how it begins, and how it ends.
+-- old whole run: how it begins, and how it ends.
 use Rattle.std.specs.Prelude.{◌≡◌, ◌≤◌, ◌⊎◌, ⊤, ℕ, ℤ, ◌*◌, ◌^◌, Bool, true, false, List, [], Option, None, Some, IfSome, Result, Ok, Err}
 use Rattle.store_io.specs.Causes.{Rose}
 use Rattle.nbody_model.specs.States.{StateData, IsRest}
@@ -15,7 +15,8 @@ use Rattle.run_session.specs.declared.step.Refusal.{Refusal as Cause}
 use Rattle.run_session.specs.declared.step.Refusal.TheVariants as causes
 use Rattle.run_session.specs.declared.turn.Turn.{Turn}
 use Rattle.run_session.specs.declared.turn.Turn.TheVariants as turns
-use Rattle.run_session.specs.RunEnds.{World, IsBrokenOff, IsStopped, IsWhole}
+use Rattle.run_session.specs.RunEnds.{IsBrokenOff, IsStopped, IsWhole}
+use Rattle.run_session.specs.Worlds.{World}
 use Rattle.run_session.specs.Steps.{refusal_of}
 
 -- ---- its beginning
@@ -38,15 +39,15 @@ StartsBy p (turns.Refused why) = ⊤
 
 -- the session came to its last tick, was stopped, or was refused
 abbrev pub SessionEnds : ParamsData → Bool → StateData → Passes → Bool → (Option ℕ → SessionData) → World → World → Turn → Type 0
-SessionEnds p resumed σ passes told sessions A Z (turns.On last) = IsWhole p resumed σ passes told true SessionDone (sessions None) A Z × ((sessions None).state ≡ last.state)
-SessionEnds p resumed σ passes told sessions A Z (turns.Stopped τ) = IsStopped p resumed σ passes told τ.tick (sessions (Some τ.tick)) (sessions None) A Z × ((sessions (Some τ.tick)).state ≡ τ)
-SessionEnds p resumed σ passes told sessions A Z (turns.Refused why) = IsWhole p resumed σ passes told false (OutOfRange (refusal_of why)) (sessions None) A Z
+SessionEnds p resumed σ passes told sessions old new (turns.On last) = IsWhole p resumed σ passes told true SessionDone (sessions None) old new × ((sessions None).state ≡ last.state)
+SessionEnds p resumed σ passes told sessions old new (turns.Stopped τ) = IsStopped p resumed σ passes told τ.tick (sessions (Some τ.tick)) (sessions None) old new × ((sessions (Some τ.tick)).state ≡ τ)
+SessionEnds p resumed σ passes told sessions old new (turns.Refused why) = IsWhole p resumed σ passes told false (OutOfRange (refusal_of why)) (sessions None) old new
 
 -- the same, or it was broken off by a failure
 abbrev pub SessionLeaves : ParamsData → Bool → StateData → Passes → Bool → (Option ℕ → SessionData) → World → World → Result Turn Failure → Type 0
-SessionLeaves p resumed σ passes told sessions A Z (Ok t) = SessionEnds p resumed σ passes told sessions A Z t
-SessionLeaves p resumed σ passes told sessions A Z (Err (failures.WriteFault name)) = IsBrokenOff p resumed σ passes told sessions A Z × Rose A.faults Z.faults × IfSome Z.last (λ c. c ≡ (name, false))
-SessionLeaves p resumed σ passes told sessions A Z (Err failures.Memory) = IsBrokenOff p resumed σ passes told sessions A Z × (A.faults ≤ Z.faults)
+SessionLeaves p resumed σ passes told sessions old new (Ok t) = SessionEnds p resumed σ passes told sessions old new t
+SessionLeaves p resumed σ passes told sessions old new (Err (failures.WriteFault name)) = IsBrokenOff p resumed σ passes told sessions (Some name) old new × Rose old.faults new.faults × IfSome new.last (λ c. c ≡ (name, false))
+SessionLeaves p resumed σ passes told sessions old new (Err failures.Memory) = IsBrokenOff p resumed σ passes told sessions None old new × (old.faults ≤ new.faults)
 
 -- ---- what is told of it
 

@@ -2,7 +2,7 @@
 use Rattle.std.specs.Prelude.{◌≡◌, ◌≤◌, ◌<◌, ⊤, ◌⊎◌, ℕ, ◌+◌, Bool, false, IsTrue, List, [], ◌∷◌, ◌++◌, length, map, Option, Some, None, IfSome, if◌then◌else◌, not, ◌&&◌, true, nat_lt, ◌%◌, ◌==◌}
 use Rattle.std.specs.List.{flat_map}
 use Rattle.store_io.specs.Files.{Files}
-use Rattle.store_io.specs.Causes.{Call, Rose}
+use Rattle.store_io.specs.Causes.{Rose}
 use Rattle.store_io.specs.Stops.{Asks}
 use Rattle.nbody_model.specs.declared.field.Event.{Event}
 use Rattle.nbody_model.specs.Setups.{last_tick}
@@ -18,8 +18,10 @@ use Rattle.step_engine.specs.Told.{AreForcesAmong}
 use Rattle.step_engine.specs.BaseSteps.{StandsFor}
 use Rattle.run_session.specs.Own.{Own, OwnTexts, Stands, HasPart, IsOther}
 use Rattle.run_session.specs.Changes.{AreThere}
-use Rattle.run_session.specs.Outputs.{file_name, file_bytes, with_file, with_written, found_in, session_texts, LeavesPart}
-use Rattle.run_session.specs.RunEnds.{World, plan_of, IsAnsweredYes, YesBy}
+use Rattle.run_session.specs.Outputs.{file_name, file_bytes, with_file, with_written, found_in, session_texts}
+use Rattle.run_session.specs.Broken.{IsGoing}
+use Rattle.run_session.specs.RunEnds.{plan_of, IsAnsweredYes}
+use Rattle.run_session.specs.Worlds.{World}
 
 -- ---- what a run goes by
 
@@ -34,21 +36,10 @@ pub record Basis : Type 0 where
 abbrev pub basis : Gravity → Option ExpansionData → ParamsData → Own → List ℕ → Bool → World → Basis
 basis g e p own times told start = record { plan = plan_of g e p times; params = p; own = own; told = told; start = start }
 
--- what is told of a store, of forces and of a stopper
-abbrev pub world : Files → List (List ℕ) → ℕ → Option Call → List ℕ → ℕ → Option ℕ → World
-world files closed faults last state yeses left = record { files = files; closed = closed; faults = faults; last = last; state = state; yes = yeses; left = left }
-
 -- forces stand for the settings, and a table of factors, if there is one, reaches the last tick
 pub record IsSound (plan : Plan) (p : ParamsData) : Type 0 where
   pub stands : StandsFor plan.rules.gravity (setup_of p)
   pub spans : IfSome plan.rules.expansion (λ e. Reaches e (last_tick (setup_of p)))
-
--- states at the same tick: bodies, depths, base steps and tick
-pub record SameTimes (σ τ : StateData) : Type 0 where
-  pub depths : σ.depths ≡ τ.depths
-  pub steps : σ.steps ≡ τ.steps
-  pub tick : σ.tick ≡ τ.tick
-  pub bodies : σ.bodies ≡ τ.bodies
 
 -- no file of a session has the name of one that is kept open
 abbrev pub AreOthers : ParamsData → Own → Type 0
@@ -101,28 +92,28 @@ IsLeft None n (Some now) = ⊥
 IsLeft (Some left) n None = ⊥
 
 -- no fault and no yes was counted, and so many questions were answered no
-pub record IsQuietly (A Z : World) (questions : ℕ) : Type 0 where
-  pub faults : Z.faults ≡ A.faults
-  pub last : Z.last ≡ A.last
-  pub yes : Z.yes ≡ A.yes
-  pub left : IsLeft A.left questions Z.left
+pub record IsQuietly (old new : World) (questions : ℕ) : Type 0 where
+  pub faults : new.faults ≡ old.faults
+  pub last : new.last ≡ old.last
+  pub yes : new.yes ≡ old.yes
+  pub left : IsLeft old.left questions new.left
 
 -- the files are those of a session so far, and its forces were found one after another
-pub record HasFiles (C : Basis) (passes : Passes) (d : SessionData) (Z : World) : Type 0 where
+pub record HasFiles (C : Basis) (passes : Passes) (d : SessionData) (new : World) : Type 0 where
   pub events : List (List Event)
-  pub found : PassesAll passes (asked d) C.start.state events Z.state
-  pub files : IsTrue C.told → Stands C.own (session_texts d events) (with_written C.params d.written C.start.files) Z.files
-  pub closed : IsTrue C.told → Z.closed ≡ C.start.closed ++ map (file_name C.params) d.written
+  pub found : PassesAll passes (asked d) C.start.state events new.state
+  pub files : IsTrue C.told → Stands C.own (session_texts d events) (with_written C.params d.written C.start.files) new.files
+  pub closed : IsTrue C.told → new.closed ≡ C.start.closed ++ map (file_name C.params) d.written
 
 -- all is as in a session so far, whose last state this is
-pub record Matches (C : Basis) (passes : Passes) (d : SessionData) (σ : StateData) (Z : World) : Type 0 where
+pub record Matches (C : Basis) (passes : Passes) (d : SessionData) (σ : StateData) (new : World) : Type 0 where
   pub state : d.state ≡ σ
-  pub files : HasFiles C passes d Z
-  pub quiet : IsQuietly C.start Z (length d.questions)
+  pub files : HasFiles C passes d new
+  pub quiet : IsQuietly C.start new (length d.questions)
 
--- whatever this session so far grows to: the files are left as after a fault in that session
-pub record IsBrokenIn (C : Basis) (passes : Passes) (d : SessionData) (Z : World) : Type 0 where
-  pub left : (e : SessionData) → GrowsTo d e → IsTrue C.told → LeavesPart C.params C.own passes C.start.state e C.start.files Z.files C.start.closed Z.closed
+-- whatever this session so far grows to: the files are left as after a fault at this file, or want of memory, in that session
+pub record IsBrokenIn (C : Basis) (passes : Passes) (d : SessionData) (fault : Option (List ℕ)) (new : World) : Type 0 where
+  pub going : (e : SessionData) → GrowsTo d e → IsGoing C.params C.own passes C.told e fault C.start new
 
 -- ---- what a base step left in memory
 
@@ -164,11 +155,11 @@ IsFrom tick None = ⊤
 IsFrom tick (Some u) = tick ≤ u
 
 -- the session with this stop has come here, and n more base steps are enough for what is left
-pub record HasCome (C : Basis) (passes : Passes) (sessions : Option ℕ → SessionData) (σ : StateData) (known : Bool) (Z : World) (stop : Option ℕ) : Type 0 where
+pub record HasCome (C : Basis) (passes : Passes) (sessions : Option ℕ → SessionData) (σ : StateData) (known : Bool) (new : World) (stop : Option ℕ) : Type 0 where
   pub d : SessionData
   pub n : ℕ
   pub same : sessions stop ≡ session_from n C.plan stop known d
-  pub matches : Matches C passes d σ Z
+  pub matches : Matches C passes d σ new
   pub end : d.end ≡ Done
   pub enough : C.plan.rules.gravity.setup.time_max ≤ σ.tick + n
   pub some : is_empty σ.depths ≡ false → 1 ≤ n
@@ -178,28 +169,28 @@ abbrev pub onwards : ℕ → Plan → Option ℕ → Bool → SessionData → Se
 onwards n plan stop known e = if is_done e.end then session_from n plan stop known e else e
 
 -- the session with this stop has come to a synchronisation, which isn't handled yet
-pub record IsAtSync (C : Basis) (passes : Passes) (sessions : Option ℕ → SessionData) (before : Option ℕ) (σ : StateData) (known : Bool) (Z : World) (stop : Option ℕ) : Type 0 where
+pub record IsAtSync (C : Basis) (passes : Passes) (sessions : Option ℕ → SessionData) (before : Option ℕ) (σ : StateData) (known : Bool) (new : World) (stop : Option ℕ) : Type 0 where
   pub d : SessionData
   pub n : ℕ
   pub same : sessions stop ≡ onwards n C.plan stop known (synchronised C.plan stop before d)
-  pub matches : Matches C passes d σ Z
+  pub matches : Matches C passes d σ new
   pub enough : C.plan.rules.gravity.setup.time_max ≤ σ.tick + n
 
 -- the session was stopped at a tick, with these files
-pub record HasStopped (C : Basis) (passes : Passes) (sessions : Option ℕ → SessionData) (σ : StateData) (Z : World) : Type 0 where
+pub record HasStopped (C : Basis) (passes : Passes) (sessions : Option ℕ → SessionData) (σ : StateData) (new : World) : Type 0 where
   pub state : (sessions (Some σ.tick)).state ≡ σ
   pub end : (sessions (Some σ.tick)).end ≡ Stopped
-  pub files : HasFiles C passes (sessions (Some σ.tick)) Z
-  pub faults : Z.faults ≡ C.start.faults
-  pub last : Z.last ≡ C.start.last
-  pub yes : Rose C.start.yes Z.yes
+  pub files : HasFiles C passes (sessions (Some σ.tick)) new
+  pub faults : new.faults ≡ C.start.faults
+  pub last : new.last ≡ C.start.last
+  pub yes : Rose C.start.yes new.yes
   pub question : IsAnsweredYes C.start.left (sessions None).questions σ.tick
 
 -- the session has ended so, with these files
-pub record HasEnded (C : Basis) (passes : Passes) (d : SessionData) (why : End) (Z : World) : Type 0 where
+pub record HasEnded (C : Basis) (passes : Passes) (d : SessionData) (why : End) (new : World) : Type 0 where
   pub end : d.end ≡ why
-  pub files : HasFiles C passes d Z
-  pub quiet : IsQuietly C.start Z (length d.questions)
+  pub files : HasFiles C passes d new
+  pub quiet : IsQuietly C.start new (length d.questions)
 
 -- ---- a synchronisation
 
@@ -213,40 +204,44 @@ abbrev pub IsAnswer : Bool → Bool → ℕ → ℕ → Option ℕ → Option �
 IsAnswer true answer yeses yeses_now left left_now = Asks answer yeses yeses_now left left_now
 IsAnswer false answer yeses yeses_now left left_now = (answer ≡ false) × ((yeses_now ≡ yeses) × (left_now ≡ left))
 
--- no question was left to be answered no
+-- so many questions were left to be answered no, where that is told
 abbrev pub IsLast : Option ℕ → ℕ → Type 0
-IsLast None questions = ⊤
-IsLast (Some left) questions = left ≡ questions
+IsLast left questions = IfSome left (λ n. n ≡ questions)
 
 -- it was stopped there
-pub record IsHalted (C : Basis) (passes : Passes) (before : Option ℕ) (d : SessionData) (σ : StateData) (Z : World) : Type 0 where
+pub record IsHalted (C : Basis) (passes : Passes) (before : Option ℕ) (d : SessionData) (σ : StateData) (new : World) : Type 0 where
   pub state : (synchronised C.plan (Some d.state.tick) before d).state ≡ σ
   pub end : (synchronised C.plan (Some d.state.tick) before d).end ≡ Stopped
-  pub files : HasFiles C passes (synchronised C.plan (Some d.state.tick) before d) Z
-  pub faults : Z.faults ≡ C.start.faults
-  pub last : Z.last ≡ C.start.last
-  pub yes : Rose C.start.yes Z.yes
+  pub files : HasFiles C passes (synchronised C.plan (Some d.state.tick) before d) new
+  pub faults : new.faults ≡ C.start.faults
+  pub last : new.last ≡ C.start.last
+  pub yes : Rose C.start.yes new.yes
   pub asked : asks_at before (is_running C.plan d.state) ≡ true
   pub question : IsLast C.start.left (length d.questions)
 
 -- it goes on, unless this is the tick to stop at
-pub record GoesOn (C : Basis) (passes : Passes) (before : Option ℕ) (d : SessionData) (σ : StateData) (Z : World) (stop : Option ℕ) : Type 0 where
-  pub matches : Matches C passes (synchronised C.plan stop before d) σ Z
+pub record GoesOn (C : Basis) (passes : Passes) (before : Option ℕ) (d : SessionData) (σ : StateData) (new : World) (stop : Option ℕ) : Type 0 where
+  pub matches : Matches C passes (synchronised C.plan stop before d) σ new
   pub end : (synchronised C.plan stop before d).end ≡ Done
 
 abbrev pub SyncEnds : Basis → Passes → Option ℕ → SessionData → StateData → Bool → World → Type 0
-SyncEnds C passes before d σ true Z = IsHalted C passes before d σ Z
-SyncEnds C passes before d σ false Z = (stop : Option ℕ) → is_stop stop d.state.tick ≡ false → GoesOn C passes before d σ Z stop
+SyncEnds C passes before d σ true new = IsHalted C passes before d σ new
+SyncEnds C passes before d σ false new = (stop : Option ℕ) → is_stop stop d.state.tick ≡ false → GoesOn C passes before d σ new stop
 
 -- the stop of a session that was stopped at a tick, or wasn't
 abbrev pub stop_if : Bool → ℕ → Option ℕ
 stop_if true tick = Some tick
 stop_if false tick = None
 
+-- the answer there was yes, or there was none
+abbrev pub Answers : Basis → Option ℕ → SessionData → Bool → World → Type 0
+Answers C before d true new = Rose C.start.yes new.yes × (asks_at before (is_running C.plan d.state) ≡ true) × IsLast C.start.left (length d.questions)
+Answers C before d false new = new.yes ≡ C.start.yes
+
 -- it was broken off there, after a yes or without one
-pub record SyncBreaks (C : Basis) (passes : Passes) (before : Option ℕ) (d : SessionData) (answer : Bool) (Z : World) : Type 0 where
-  pub yes : YesBy (stop_if answer d.state.tick) C.start.yes Z.yes
-  pub left : IsBrokenIn C passes (synchronised C.plan (stop_if answer d.state.tick) before d) Z
+pub record SyncBreaks (C : Basis) (passes : Passes) (before : Option ℕ) (d : SessionData) (answer : Bool) (fault : Option (List ℕ)) (new : World) : Type 0 where
+  pub answered : Answers C before d answer new
+  pub broken : IsBrokenIn C passes (synchronised C.plan (stop_if answer d.state.tick) before d) fault new
 
 -- a restart file is written after so many base steps
 abbrev pub kept_after : ℕ → ℕ → Bool → Bool
@@ -264,38 +259,38 @@ IsLastOf None rests = ⊤
 IsLastOf (Some left) rests = left + 1 ≡ length rests
 
 -- the whole step, for this stop
-pub record IsWhole (plan : Plan) (o : Own) (passes : Passes) (known : Bool) (σ τ : StateData) (log : OwnTexts) (A Z : World) (stop : Option ℕ) : Type 0 where
+pub record IsWhole (plan : Plan) (o : Own) (passes : Passes) (known : Bool) (σ τ : StateData) (log : OwnTexts) (old new : World) (stop : Option ℕ) : Type 0 where
   pub p : Progress
   pub is : base_step plan stop known σ ≡ Going p
   pub state : τ ≡ advanced plan p σ
-  pub logged : IsLogged o passes p.trail A.state Z.state log
-  pub left : IsLeftIn A.left (rests_of p.trail) Z.left
+  pub logged : IsLogged o passes p.trail old.state new.state log
+  pub left : IsLeftIn old.left (rests_of p.trail) new.left
 
 -- it rests
-pub record IsAtRest (plan : Plan) (o : Own) (passes : Passes) (known : Bool) (σ τ : StateData) (log : OwnTexts) (A Z : World) : Type 0 where
+pub record IsAtRest (plan : Plan) (o : Own) (passes : Passes) (known : Bool) (σ τ : StateData) (log : OwnTexts) (old new : World) : Type 0 where
   pub p : Progress
   pub parts : List (List ℕ)
   pub is : base_step plan (Some τ.tick) known σ ≡ Resting p τ.tick parts
   pub state : τ ≡ rested p τ.tick parts σ
-  pub logged : IsLogged o passes p.trail A.state Z.state log
-  pub yes : Rose A.yes Z.yes
-  pub left : IsLastOf A.left (rests_of p.trail)
+  pub logged : IsLogged o passes p.trail old.state new.state log
+  pub yes : Rose old.yes new.yes
+  pub left : IsLastOf old.left (rests_of p.trail)
 
 -- it is refused
-pub record IsOut (plan : Plan) (o : Own) (passes : Passes) (known : Bool) (σ : StateData) (why : Refusal) (log : OwnTexts) (A Z : World) : Type 0 where
+pub record IsOut (plan : Plan) (o : Own) (passes : Passes) (known : Bool) (σ : StateData) (why : Refusal) (log : OwnTexts) (old new : World) : Type 0 where
   pub p : Progress
   pub is : base_step plan None known σ ≡ Refused p why
-  pub logged : IsLogged o passes p.trail A.state Z.state log
-  pub left : IsLeftIn A.left (rests_of p.trail) Z.left
+  pub logged : IsLogged o passes p.trail old.state new.state log
+  pub left : IsLeftIn old.left (rests_of p.trail) new.left
 
 -- the session was stopped at rest, and its restart file is still to be written
-pub record RestsIn (C : Basis) (passes : Passes) (sessions : Option ℕ → SessionData) (τ : StateData) (Z : World) : Type 0 where
+pub record RestsIn (C : Basis) (passes : Passes) (sessions : Option ℕ → SessionData) (τ : StateData) (new : World) : Type 0 where
   pub d : SessionData
   pub is : sessions (Some τ.tick) ≡ with_restart true d
   pub state : d.state ≡ τ
   pub end : d.end ≡ Stopped
-  pub files : HasFiles C passes d Z
-  pub faults : Z.faults ≡ C.start.faults
-  pub last : Z.last ≡ C.start.last
-  pub yes : Rose C.start.yes Z.yes
+  pub files : HasFiles C passes d new
+  pub faults : new.faults ≡ C.start.faults
+  pub last : new.last ≡ C.start.last
+  pub yes : Rose C.start.yes new.yes
   pub question : IsAnsweredYes C.start.left (sessions None).questions τ.tick

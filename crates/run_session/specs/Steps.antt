@@ -22,7 +22,7 @@ use Rattle.run_session.specs.declared.step.Made.{Made}
 use Rattle.run_session.specs.declared.step.Made.TheVariants as made
 use Rattle.run_session.specs.Own.{Own, OwnTexts}
 use Rattle.run_session.specs.Logs.{tells}
-use Rattle.run_session.specs.RunEnds.{World}
+use Rattle.run_session.specs.Worlds.{World}
 use Rattle.run_session.specs.Stages.{IsWhole, IsAtRest, IsOut}
 
 -- ---- where it begins
@@ -37,13 +37,13 @@ pub record CanStep (s : SetupData) (e : Option ExpansionData) (B : List BodyData
 
 -- where a base step of a state ended, with these bodies, what was told of it to a taker that keeps this log: it began with
 -- none, keeps the texts of the files that there are, and never fails
-pub record IsRecorded (plan : Plan) (o : Own) (passes : Passes) (known : Bool) (σ : StateData) (B : List BodyData) (log : OwnTexts) (A Z : World) (ended : Result StepCount StepEnd) : Type 0 where
+pub record IsRecorded (plan : Plan) (o : Own) (passes : Passes) (known : Bool) (σ : StateData) (B : List BodyData) (log : OwnTexts) (old new : World) (ended : Result StepCount StepEnd) : Type 0 where
   pub traced : Bool
   pub binned : Bool
   pub keeps_trace : IfSome o.trace (λ _. traced ≡ true)
   pub keeps_bins : IfSome o.bins (λ _. binned ≡ true)
-  pub ends : StepEnds plan.rules.gravity passes (record { bodies = σ.bodies; state = A.state; took = tells traced binned (record { kicks = []; trace = []; bins = [] }) A.left }) (record { bodies = B; state = Z.state; took = tells traced binned log Z.left }) (λ stop. base_step plan stop known σ) σ.tick (began plan.rules.gravity.setup.top_bin σ.tick + 2 ^ plan.rules.gravity.setup.top_bin) ended
-  pub cause : StepCause ended 0 0 A.yes Z.yes
+  pub ends : StepEnds plan.rules.gravity passes (record { bodies = σ.bodies; state = old.state; took = tells traced binned (record { kicks = []; trace = []; bins = [] }) old.left }) (record { bodies = B; state = new.state; took = tells traced binned log new.left }) (λ stop. base_step plan stop known σ) σ.tick (began plan.rules.gravity.setup.top_bin σ.tick + 2 ^ plan.rules.gravity.setup.top_bin) ended
+  pub cause : StepCause ended 0 0 old.yes new.yes
 
 -- a state that counts this
 abbrev pub state_with : List BodyData → List ℕ → Counters → StateData
@@ -85,14 +85,14 @@ refusal_of (causes.MomRange tick bin id axis) = MomRange tick bin id axis
 refusal_of (causes.StepRange tick id) = StepRange tick id
 
 -- it came to its end, for each stop that doesn't come before; the forces among all bodies are known then
-pub record IsMade (plan : Plan) (o : Own) (passes : Passes) (known : Bool) (σ : StateData) (log : OwnTexts) (A Z : World) (next : Run) : Type 0 where
-  pub whole : (stop : Option ℕ) → IsOutside σ.tick (step_end plan σ) stop → IsWhole plan o passes known σ next.state log A Z stop
-  pub yes : Z.yes ≡ A.yes
+pub record IsMade (plan : Plan) (o : Own) (passes : Passes) (known : Bool) (σ : StateData) (log : OwnTexts) (old new : World) (next : Run) : Type 0 where
+  pub whole : (stop : Option ℕ) → IsOutside σ.tick (step_end plan σ) stop → IsWhole plan o passes known σ next.state log old new stop
+  pub yes : new.yes ≡ old.yes
   pub has_forces : is_known next.known ≡ true
   pub forces : IfSome next.known (AreForcesAmong plan.rules.gravity next.state.bodies)
 
 -- how a base step ended: whole; at rest before its end; or refused
 abbrev pub StepMade : Plan → Own → Passes → Bool → StateData → OwnTexts → World → World → Made → Type 0
-StepMade plan o passes known σ log A Z (made.Whole next) = IsMade plan o passes known σ log A Z next
-StepMade plan o passes known σ log A Z (made.Rested τ) = (σ.tick < τ.tick) × (τ.tick < step_end plan σ) × IsAtRest plan o passes known σ τ log A Z
-StepMade plan o passes known σ log A Z (made.Refused why) = IsOut plan o passes known σ (refusal_of why) log A Z × (Z.yes ≡ A.yes)
+StepMade plan o passes known σ log old new (made.Whole next) = IsMade plan o passes known σ log old new next
+StepMade plan o passes known σ log old new (made.Rested τ) = (σ.tick < τ.tick) × (τ.tick < step_end plan σ) × IsAtRest plan o passes known σ τ log old new
+StepMade plan o passes known σ log old new (made.Refused why) = IsOut plan o passes known σ (refusal_of why) log old new × (new.yes ≡ old.yes)

@@ -1,5 +1,5 @@
 -- How a turn of a run ends: a base step with the synchronisation that follows it.
-use Rattle.std.specs.Prelude.{◌≡◌, ◌≤◌, ◌<◌, ⊤, ◌*◌, ◌^◌, ℕ, IsTrue, Bool, true, [], Option, None, Some, IfSome}
+use Rattle.std.specs.Prelude.{◌≡◌, ◌≤◌, ◌<◌, ⊤, ◌*◌, ◌^◌, ℕ, IsTrue, Bool, true, List, [], Option, None, Some, IfSome}
 use Rattle.nbody_model.specs.Session.{SessionData, OutOfRange}
 use Rattle.nbody_model.specs.States.{StateData}
 use Rattle.nbody_model.specs.Tables.{Gravity}
@@ -15,29 +15,31 @@ use Rattle.run_session.specs.declared.turn.Turn.{Turn}
 use Rattle.run_session.specs.declared.turn.Turn.TheVariants as turns
 use Rattle.run_session.specs.Changes.{AreThere}
 use Rattle.run_session.specs.Own.{Own}
-use Rattle.run_session.specs.RunEnds.{World, YesBy}
-use Rattle.run_session.specs.Stages.{Basis, HasCome, IsAtSync, HasStopped, HasEnded, IsBrokenIn, IsLater, IsFrom, RestsIn, SameTimes}
+use Rattle.run_session.specs.RunEnds.{IsStopOf}
+use Rattle.run_session.specs.Worlds.{World}
+use Rattle.model_laws.specs.Resumed.{SameTimes}
+use Rattle.run_session.specs.Stages.{Basis, HasCome, IsAtSync, HasStopped, HasEnded, IsBrokenIn, IsLater, IsFrom, RestsIn}
 use Rattle.run_session.specs.Steps.{refusal_of}
 
 -- whatever stop comes later, the session with it has come here
 abbrev pub Comes : Basis → Passes → (Option ℕ → SessionData) → StateData → Bool → World → Type 0
-Comes C passes sessions σ known Z = (stop : Option ℕ) → IsLater σ.tick stop → HasCome C passes sessions σ known Z stop
+Comes C passes sessions σ known new = (stop : Option ℕ) → IsLater σ.tick stop → HasCome C passes sessions σ known new stop
 
 -- whatever stop comes here or later, it has come to this synchronisation
 abbrev pub ComesToSync : Basis → Passes → (Option ℕ → SessionData) → Option ℕ → StateData → Bool → World → Type 0
-ComesToSync C passes sessions before σ known Z = (stop : Option ℕ) → IsFrom σ.tick stop → IsAtSync C passes sessions before σ known Z stop
+ComesToSync C passes sessions before σ known new = (stop : Option ℕ) → IsFrom σ.tick stop → IsAtSync C passes sessions before σ known new stop
 
--- it was broken off, without a stop or after a yes
-pub record HasBroken (C : Basis) (passes : Passes) (sessions : Option ℕ → SessionData) (Z : World) : Type 0 where
+-- it was broken off by a fault at this file, or by want of memory, without a stop or after a yes
+pub record HasBroken (C : Basis) (passes : Passes) (sessions : Option ℕ → SessionData) (fault : Option (List ℕ)) (new : World) : Type 0 where
   pub stop : Option ℕ
-  pub yes : YesBy stop C.start.yes Z.yes
-  pub left : IsBrokenIn C passes (sessions stop) Z
+  pub question : IsStopOf C.start.left (sessions None).questions C.start.yes new.yes stop
+  pub broken : IsBrokenIn C passes (sessions stop) fault new
 
 -- it goes on, was stopped, or was refused
 abbrev pub TurnEnds : Basis → Passes → (Option ℕ → SessionData) → World → Turn → Type 0
-TurnEnds C passes sessions Z (turns.On next) = Comes C passes sessions next.state true Z
-TurnEnds C passes sessions Z (turns.Stopped τ) = HasStopped C passes sessions τ Z
-TurnEnds C passes sessions Z (turns.Refused why) = HasEnded C passes (sessions None) (OutOfRange (refusal_of why)) Z
+TurnEnds C passes sessions new (turns.On next) = Comes C passes sessions next.state true new
+TurnEnds C passes sessions new (turns.Stopped τ) = HasStopped C passes sessions τ new
+TurnEnds C passes sessions new (turns.Refused why) = HasEnded C passes (sessions None) (OutOfRange (refusal_of why)) new
 
 -- a run at the end of a base step, where the forces among all bodies are known
 pub record IsTimed (g : Gravity) (p : ParamsData) (run : Run) : Type 0 where
@@ -54,9 +56,9 @@ GoesLater g p tick (turns.Refused why) = Unit {0}
 
 -- after a synchronisation with known forces or not
 abbrev pub SyncTurns : Basis → Passes → (Option ℕ → SessionData) → Bool → World → Turn → Type 0
-SyncTurns C passes sessions known Z (turns.On next) = Comes C passes sessions next.state known Z
-SyncTurns C passes sessions known Z (turns.Stopped τ) = HasStopped C passes sessions τ Z
-SyncTurns C passes sessions known Z (turns.Refused why) = ⊥
+SyncTurns C passes sessions known new (turns.On next) = Comes C passes sessions next.state known new
+SyncTurns C passes sessions known new (turns.Stopped τ) = HasStopped C passes sessions τ new
+SyncTurns C passes sessions known new (turns.Refused why) = ⊥
 
 -- a run that goes on has the forces and the times that it had
 abbrev pub StaysWith : Run → Turn → Type 0
@@ -83,17 +85,17 @@ FollowsMade made (turns.Refused why) = ⊤
 -- the session with each later stop has come to the synchronisation after that at the tick `before`; or it rests; or it was
 -- refused
 abbrev pub IsMadeIn : Basis → Passes → (Option ℕ → SessionData) → ℕ → World → Made → Type 0
-IsMadeIn C passes sessions before Z (made.Whole next) = ComesToSync C passes sessions (Some before) next.state true Z
-IsMadeIn C passes sessions before Z (made.Rested τ) = RestsIn C passes sessions τ Z
-IsMadeIn C passes sessions before Z (made.Refused why) = HasEnded C passes (sessions None) (OutOfRange (refusal_of why)) Z
+IsMadeIn C passes sessions before new (made.Whole next) = ComesToSync C passes sessions (Some before) next.state true new
+IsMadeIn C passes sessions before new (made.Rested τ) = RestsIn C passes sessions τ new
+IsMadeIn C passes sessions before new (made.Refused why) = HasEnded C passes (sessions None) (OutOfRange (refusal_of why)) new
 
 -- ---- all base steps
 
 -- they came to the last tick, or ended before
 abbrev pub StepsEnd : Basis → Passes → (Option ℕ → SessionData) → World → Turn → Type 0
-StepsEnd C passes sessions Z (turns.On last) = Comes C passes sessions last.state (is_known last.known) Z × ((C.plan.rules.gravity.setup.time_max ≤ last.state.tick) × (last.state.depths ≡ []))
-StepsEnd C passes sessions Z (turns.Stopped τ) = HasStopped C passes sessions τ Z
-StepsEnd C passes sessions Z (turns.Refused why) = HasEnded C passes (sessions None) (OutOfRange (refusal_of why)) Z
+StepsEnd C passes sessions new (turns.On last) = Comes C passes sessions last.state (is_known last.known) new × ((C.plan.rules.gravity.setup.time_max ≤ last.state.tick) × (last.state.depths ≡ []))
+StepsEnd C passes sessions new (turns.Stopped τ) = HasStopped C passes sessions τ new
+StepsEnd C passes sessions new (turns.Refused why) = HasEnded C passes (sessions None) (OutOfRange (refusal_of why)) new
 
 -- the files that are kept open stand
 abbrev pub AreStanding : Own → Bool → Files → Type 0

@@ -5,9 +5,11 @@ mod course;
 mod ended;
 mod failure;
 mod files;
+mod inputs;
 mod lines;
 mod log;
 mod names;
+mod open_files;
 mod own;
 mod recorder;
 mod session;
@@ -18,6 +20,7 @@ mod turn;
 mod writes;
 
 pub use ended::{End, Ended};
+pub use inputs::Inputs;
 pub use names::numbered;
 pub use session::run;
 

@@ -1,30 +1,30 @@
 // A whole run: its session, and the files that are kept open around it.
-ghost use Rattle.std.specs.Prelude.{Bool, ◌≡◌, ◌≤◌, ◌<◌, ◌*◌, ◌^◌, ℕ, ℤ, List, [], Option, Some, None, IfSome, IsTrue, false, true, not, IfOk, IfErr, OnOk, OnErr, option_copied};
+ghost use Rattle.std.specs.Prelude.{◌≡◌, None, IfSome, not, IfOk, IfErr, OnOk, option_copied};
 ghost use Rattle.nbody_model.specs.Bodies.{total, components};
 ghost use Rattle.nbody_model.specs.Setups.{last_tick};
-ghost use Rattle.nbody_model.specs.Tables.{Gravity, Reaches};
+ghost use Rattle.nbody_model.specs.Tables.{Reaches};
 ghost use Rattle.nbody_model.specs.Evolve.{is_empty};
-ghost use Rattle.nbody_model.specs.Session.{SessionData, session};
 ghost use Rattle.model_laws.specs.Laws.{AreBodies};
 ghost use Rattle.param_file.specs.Settings.{IsParams, setup_of};
-ghost use Rattle.step_engine.specs.BaseSteps.{StandsFor, is_known};
+ghost use Rattle.step_engine.specs.BaseSteps.{StandsFor};
 ghost use Rattle.run_session.specs.Causes.{FilesCause};
 ghost use Rattle.run_session.specs.Own.{AreApart, own_files};
-ghost use Rattle.run_session.specs.RunEnds.{IsBegun, RunEnds, World, plan_of};
-ghost use Rattle.run_session.specs.Stages.{AreOthers, KeepsOwn, Matches, world};
-ghost use Rattle.run_session.specs.Courses.{basis_of};
-ghost use Rattle.run_session.specs.Sessions.{Begins, SessionLeaves, StartsBy, came_to_last, end_of, ended_by, start_session, told_end, told_state};
-ghost use Rattle.run_session.specs.Turned.{AreStanding, Comes, HasBroken, StepsEnd, SyncTurns};
+ghost use Rattle.run_session.specs.Promises.{BreaksFrom, CourseLeaves, InputsLeave, MakesSession, MakesSteps, Runs, SessionBreaks, StartBreaks, Starts};
+ghost use Rattle.run_session.specs.RunEnds.{IsBegun};
+ghost use Rattle.run_session.specs.Sessions.{Begins, StartsBy, came_to_last, end_of, ended_by, told_end, told_state};
+ghost use Rattle.run_session.specs.Spans.{span_by, stop_span};
+ghost use Rattle.run_session.specs.Stages.{AreOthers, KeepsOwn};
+ghost use Rattle.run_session.specs.Turned.{AreStanding};
 
 use crate::course::{Course, Progress};
 use crate::ended::{End, Ended};
 use crate::failure::Failure;
-use crate::files::{finish_own, open_own};
+use crate::inputs::Inputs;
 use crate::names::own_names;
+use crate::open_files::{finish_own, open_own};
 use crate::step::Refusal;
 use crate::steps::whole_steps;
 use crate::turn::{Turn, after_step, take_turn};
-use expansion_table::Expansion;
 use model_laws::laws::bodies::keep_limits;
 use model_laws::laws::sessions::sessions_conserve;
 use nbody_model::Forces;
@@ -50,8 +50,8 @@ fn start<F: Forces, S: Store, Q: Stopper>(
     ensures cause { FilesCause result (S.faults store.old) (S.faults store.new) (S.last store.old) (S.last store.new) }
     ensures keeps { OnOk result (KeepsOwn course.now.own.now (S.tells store.old) (S.file store.old) (S.file store.new)) }
     ensures starts { IfOk result (StartsBy course.now.params.now) }
-    ensures ok { IfOk result (λ t. (g : Gravity) (fixed : List ℕ) (A : World) (fs : List ℕ) → g.setup ≡ setup_of course.now.params.now → Matches (basis_of g course.now (S.tells store.old) A) (F.passes g fixed) (start_session state) state (world (S.file store.old) (S.closed store.old) (S.faults store.old) (S.last store.old) fs (Q.yes stop.old) (Q.left stop.old)) → SyncTurns (basis_of g course.now (S.tells store.old) A) (F.passes g fixed) (λ s. session (plan_of g (option_copied course.now.expansion) course.now.params.now course.now.outputs.now) resumed s state) false (world (S.file store.new) (S.closed store.new) (S.faults store.new) (S.last store.new) fs (Q.yes stop.new) (Q.left stop.new)) t) }
-    ensures err { OnErr result ((g : Gravity) (fixed : List ℕ) (A : World) (fs : List ℕ) → g.setup ≡ setup_of course.now.params.now → Matches (basis_of g course.now (S.tells store.old) A) (F.passes g fixed) (start_session state) state (world (S.file store.old) (S.closed store.old) (S.faults store.old) (S.last store.old) fs (Q.yes stop.old) (Q.left stop.old)) → HasBroken (basis_of g course.now (S.tells store.old) A) (F.passes g fixed) (λ s. session (plan_of g (option_copied course.now.expansion) course.now.params.now course.now.outputs.now) resumed s state) (world (S.file store.new) (S.closed store.new) (S.faults store.new) (S.last store.new) fs (Q.yes stop.new) (Q.left stop.new))) }
+    ensures ok { IfOk result (Starts course.now resumed state (stop_span F.Forces S.Store Q.Stopper store.old stop.old store.new stop.new)) }
+    ensures err { IfErr result (StartBreaks course.now resumed state (stop_span F.Forces S.Store Q.Stopper store.old stop.old store.new stop.new)) }
 {
     let run = Progress { state, known: None };
     if resumed {
@@ -89,10 +89,12 @@ fn all_steps<F: Forces, S: Store, Q: Stopper>(
     requires none { run.known ≡ None }
     requires begun { Begins course.now.params.now run.state }
     ensures tells { S.tells store.new ≡ S.tells store.old }
+    ensures same_gravity { F.gravity forces.new ≡ F.gravity forces.old }
+    ensures same_fixed { F.fixed forces.new ≡ F.fixed forces.old }
     ensures cause { FilesCause result (S.faults store.old) (S.faults store.new) (S.last store.old) (S.last store.new) }
     ensures keeps { OnOk result (AreStanding course.now.own.now (S.tells store.old) (S.file store.new)) }
-    ensures ok { IfOk result (λ t. (A : World) (sessions : Option ℕ → SessionData) → Comes (basis_of (F.gravity forces.old) course.now (S.tells store.old) A) (F.passes (F.gravity forces.old) (F.fixed forces.old)) sessions run.state false (world (S.file store.old) (S.closed store.old) (S.faults store.old) (S.last store.old) (F.state forces.old) (Q.yes stop.old) (Q.left stop.old)) → StepsEnd (basis_of (F.gravity forces.old) course.now (S.tells store.old) A) (F.passes (F.gravity forces.old) (F.fixed forces.old)) sessions (world (S.file store.new) (S.closed store.new) (S.faults store.new) (S.last store.new) (F.state forces.new) (Q.yes stop.new) (Q.left stop.new)) t) }
-    ensures err { OnErr result ((A : World) (sessions : Option ℕ → SessionData) → Comes (basis_of (F.gravity forces.old) course.now (S.tells store.old) A) (F.passes (F.gravity forces.old) (F.fixed forces.old)) sessions run.state false (world (S.file store.old) (S.closed store.old) (S.faults store.old) (S.last store.old) (F.state forces.old) (Q.yes stop.old) (Q.left stop.old)) → HasBroken (basis_of (F.gravity forces.old) course.now (S.tells store.old) A) (F.passes (F.gravity forces.old) (F.fixed forces.old)) sessions (world (S.file store.new) (S.closed store.new) (S.faults store.new) (S.last store.new) (F.state forces.new) (Q.yes stop.new) (Q.left stop.new))) }
+    ensures ok { IfOk result (MakesSteps course.now run (span_by F.Forces S.Store Q.Stopper forces.old store.old stop.old forces.new store.new stop.new)) }
+    ensures err { IfErr result (BreaksFrom course.now run (span_by F.Forces S.Store Q.Stopper forces.old store.old stop.old forces.new store.new stop.new)) }
 {
     if !rests(&run.state) {
         return match whole_steps(alloc, course, run, forces, store, stop) {
@@ -133,10 +135,12 @@ fn session_steps<F: Forces, S: Store, Q: Stopper>(
     requires there { AreStanding course.now.own.now (S.tells store.old) (S.file store.old) }
     requires begun { IsBegun (setup_of course.now.params.now) resumed state }
     ensures tells { S.tells store.new ≡ S.tells store.old }
+    ensures same_gravity { F.gravity forces.new ≡ F.gravity forces.old }
+    ensures same_fixed { F.fixed forces.new ≡ F.fixed forces.old }
     ensures cause { FilesCause result (S.faults store.old) (S.faults store.new) (S.last store.old) (S.last store.new) }
     ensures keeps { OnOk result (AreStanding course.now.own.now (S.tells store.old) (S.file store.new)) }
-    ensures ok { IfOk result (λ t. (A : World) → Matches (basis_of (F.gravity forces.old) course.now (S.tells store.old) A) (F.passes (F.gravity forces.old) (F.fixed forces.old)) (start_session state) state (world (S.file store.old) (S.closed store.old) (S.faults store.old) (S.last store.old) (F.state forces.old) (Q.yes stop.old) (Q.left stop.old)) → StepsEnd (basis_of (F.gravity forces.old) course.now (S.tells store.old) A) (F.passes (F.gravity forces.old) (F.fixed forces.old)) (λ s. session (plan_of (F.gravity forces.old) (option_copied course.now.expansion) course.now.params.now course.now.outputs.now) resumed s state) (world (S.file store.new) (S.closed store.new) (S.faults store.new) (S.last store.new) (F.state forces.new) (Q.yes stop.new) (Q.left stop.new)) t) }
-    ensures err { OnErr result ((A : World) → Matches (basis_of (F.gravity forces.old) course.now (S.tells store.old) A) (F.passes (F.gravity forces.old) (F.fixed forces.old)) (start_session state) state (world (S.file store.old) (S.closed store.old) (S.faults store.old) (S.last store.old) (F.state forces.old) (Q.yes stop.old) (Q.left stop.old)) → HasBroken (basis_of (F.gravity forces.old) course.now (S.tells store.old) A) (F.passes (F.gravity forces.old) (F.fixed forces.old)) (λ s. session (plan_of (F.gravity forces.old) (option_copied course.now.expansion) course.now.params.now course.now.outputs.now) resumed s state) (world (S.file store.new) (S.closed store.new) (S.faults store.new) (S.last store.new) (F.state forces.new) (Q.yes stop.new) (Q.left stop.new))) }
+    ensures ok { IfOk result (MakesSession course.now resumed state (span_by F.Forces S.Store Q.Stopper forces.old store.old stop.old forces.new store.new stop.new)) }
+    ensures err { IfErr result (SessionBreaks course.now resumed state (span_by F.Forces S.Store Q.Stopper forces.old store.old stop.old forces.new store.new stop.new)) }
 {
     let turn = match start::<F, S, Q>(alloc, course, resumed, state, store, stop) {
         Ok(turn) => turn,
@@ -181,7 +185,9 @@ fn make_session<F: Forces, S: Store, Q: Stopper>(
     requires begun { IsBegun (setup_of course.now.params.now) resumed state }
     requires bodies { AreBodies state.bodies }
     ensures tells { S.tells store.new ≡ S.tells store.old }
-    ensures leaves { SessionLeaves course.now.params.now resumed state (F.passes (F.gravity forces.old) (F.fixed forces.old)) (S.tells store.old) (λ s. session (plan_of (F.gravity forces.old) (option_copied course.now.expansion) course.now.params.now course.now.outputs.now) resumed s state) (world (S.file store.old) (S.closed store.old) (S.faults store.old) (S.last store.old) (F.state forces.old) (Q.yes stop.old) (Q.left stop.old)) (world (S.file store.new) (S.closed store.new) (S.faults store.new) (S.last store.new) (F.state forces.new) (Q.yes stop.new) (Q.left stop.new)) result }
+    ensures same_gravity { F.gravity forces.new ≡ F.gravity forces.old }
+    ensures same_fixed { F.fixed forces.new ≡ F.fixed forces.old }
+    ensures leaves { CourseLeaves course.now resumed state (span_by F.Forces S.Store Q.Stopper forces.old store.old stop.old forces.new store.new stop.new) result }
 {
     sessions_conserve();
     match open_own(alloc, store, course.own) {
@@ -208,23 +214,24 @@ fn limits(params: &Params)
 // The same from the settings.
 fn session_of<F: Forces, S: Store, Q: Stopper>(
     alloc: Global,
-    state: State,
+    inputs: &Inputs,
     resumed: bool,
-    params: &Params,
-    expansion: Option<&Expansion>,
-    outputs: &[u64],
+    state: State,
     forces: &mut F,
     store: &mut S,
     stop: &mut Q,
 ) -> Result<Turn, Failure>
-    requires forces { StandsFor (F.gravity forces.old) (setup_of params.now) }
-    requires begun { IsBegun (setup_of params.now) resumed state }
-    requires spans { IfSome (option_copied expansion) (λ e. Reaches e (last_tick (setup_of params.now))) }
+    requires forces { StandsFor (F.gravity forces.old) (setup_of inputs.now.params.now) }
+    requires begun { IsBegun (setup_of inputs.now.params.now) resumed state }
+    requires spans { IfSome (option_copied inputs.now.expansion) (λ e. Reaches e (last_tick (setup_of inputs.now.params.now))) }
     requires bodies { AreBodies state.bodies }
     ensures tells { S.tells store.new ≡ S.tells store.old }
-    ensures leaves { SessionLeaves params.now resumed state (F.passes (F.gravity forces.old) (F.fixed forces.old)) (S.tells store.old) (λ s. session (plan_of (F.gravity forces.old) (option_copied expansion.entry) params.now outputs.now) resumed s state) (world (S.file store.old) (S.closed store.old) (S.faults store.old) (S.last store.old) (F.state forces.old) (Q.yes stop.old) (Q.left stop.old)) (world (S.file store.new) (S.closed store.new) (S.faults store.new) (S.last store.new) (F.state forces.new) (Q.yes stop.new) (Q.left stop.new)) result }
+    ensures same_gravity { F.gravity forces.new ≡ F.gravity forces.old }
+    ensures same_fixed { F.fixed forces.new ≡ F.fixed forces.old }
+    ensures leaves { InputsLeave inputs.now resumed state (span_by F.Forces S.Store Q.Stopper forces.old store.old stop.old forces.new store.new stop.new) result }
 {
     sessions_conserve();
+    let params = inputs.params;
     limits(params);
     let Ok(own) = own_names(alloc, params, resumed, &state) else {
         return Err(Failure::Memory);
@@ -234,8 +241,8 @@ fn session_of<F: Forces, S: Store, Q: Stopper>(
         params,
         setup: &setup,
         own: &own,
-        expansion,
-        outputs,
+        expansion: inputs.expansion,
+        outputs: inputs.outputs,
     };
     match make_session(alloc, &course, resumed, state, forces, store, stop) {
         Ok(turn) => Ok(turn),
@@ -313,8 +320,8 @@ fn ended_by(made: Result<Turn, Failure>, momentum: [i128; 3]) -> Ended
     }
 }
 
-/// A run by the forces that are found and by a table of factors if there is one, from a state on: one in which nothing was
-/// done, at tick 0, or, where it is resumed, one that a restart file keeps.
+/// A run by these inputs and the forces that are found, from a state on: one in which nothing was done, at tick 0, or, where
+/// it is resumed, one that a restart file keeps.
 ///
 /// The kick file, the trace file where ranks are traced, and the bin file where one is named and the run isn't resumed are
 /// made first and finished last. Base steps are made while the tick is below `TimeMax`; a rest state's base step is finished
@@ -323,26 +330,24 @@ fn ended_by(made: Result<Turn, Failure>, momentum: [i128; 3]) -> Ended
 /// told beside the end and the momentum is that of the last state on `Done` and `Stopped`, and else 0.
 pub fn run<F: Forces, S: Store, Q: Stopper>(
     alloc: Global,
-    state: State,
+    inputs: &Inputs,
     resumed: bool,
-    params: &Params,
-    expansion: Option<&Expansion>,
-    outputs: &[u64],
+    state: State,
     forces: &mut F,
     store: &mut S,
     stop: &mut Q,
 ) -> Ended
-    requires forces { StandsFor (F.gravity forces.old) (setup_of params.now) }
-    requires begun { IsBegun (setup_of params.now) resumed state }
-    requires spans { IfSome (option_copied expansion) (λ e. Reaches e (last_tick (setup_of params.now))) }
+    requires forces { StandsFor (F.gravity forces.old) (setup_of inputs.now.params.now) }
+    requires begun { IsBegun (setup_of inputs.now.params.now) resumed state }
+    requires spans { IfSome (option_copied inputs.now.expansion) (λ e. Reaches e (last_tick (setup_of inputs.now.params.now))) }
     ensures tells { S.tells store.new ≡ S.tells store.old }
-    ensures ends { RunEnds (plan_of (F.gravity forces.old) (option_copied expansion.entry) params.now outputs.now) params.now resumed state (F.passes (F.gravity forces.old) (F.fixed forces.old)) (S.tells store.old) (record { files = S.file store.old; closed = S.closed store.old; faults = S.faults store.old; last = S.last store.old; state = F.state forces.old; yes = Q.yes stop.old; left = Q.left stop.old }) (record { files = S.file store.new; closed = S.closed store.new; faults = S.faults store.new; last = S.last store.new; state = F.state forces.new; yes = Q.yes stop.new; left = Q.left stop.new }) result }
+    ensures same_gravity { F.gravity forces.new ≡ F.gravity forces.old }
+    ensures same_fixed { F.fixed forces.new ≡ F.fixed forces.old }
+    ensures ends { Runs inputs.now resumed state (span_by F.Forces S.Store Q.Stopper forces.old store.old stop.old forces.new store.new stop.new) result }
 {
     let set = &state.set;
     keep_limits(set.bodies());
     let momentum = momentum_of(set);
-    let made = session_of(
-        alloc, state, resumed, params, expansion, outputs, forces, store, stop,
-    );
+    let made = session_of(alloc, inputs, resumed, state, forces, store, stop);
     ended_by(made, momentum)
 }

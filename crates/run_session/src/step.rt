@@ -1,20 +1,15 @@
 // One base step of a run.
-ghost use Rattle.std.specs.Prelude.{◌≡◌, ◌<◌, ◌+◌, ◌*◌, ◌^◌, ℕ, List, Option, None, IfSome, IfOk, IfErr, OnErr, false, true, option_copied};
-ghost use Rattle.store_io.specs.Files.{Files};
-ghost use Rattle.store_io.specs.Causes.{Call};
+ghost use Rattle.std.specs.Prelude.{◌≡◌, ◌<◌, ◌+◌, ◌*◌, ◌^◌, None, IfSome, IfOk, IfErr, OnErr, false, true, option_copied};
 ghost use Rattle.nbody_model.specs.Setups.{IsSetup, last_tick};
-ghost use Rattle.nbody_model.specs.States.{StateData, began};
 ghost use Rattle.nbody_model.specs.Tables.{Reaches};
 ghost use Rattle.nbody_model.specs.Evolve.{is_empty};
-ghost use Rattle.nbody_model.specs.Session.{Plan, base_step};
 ghost use Rattle.param_file.specs.Settings.{setup_of};
 ghost use Rattle.restart_files.specs.Stored.{HasDepths, IsKept};
-ghost use Rattle.step_engine.specs.Stages.{rules};
 ghost use Rattle.step_engine.specs.Told.{AreForcesAmong};
-ghost use Rattle.step_engine.specs.BaseSteps.{AreKnown, StandsFor, StepCause, StepEnds, is_known};
-ghost use Rattle.run_session.specs.RunEnds.{plan_of};
-ghost use Rattle.run_session.specs.Stages.{world};
-ghost use Rattle.run_session.specs.Steps.{CanStep, IsRecorded, RestsWith, StepMade, counted_by, made_of, state_with, stepped_by};
+ghost use Rattle.step_engine.specs.BaseSteps.{AreKnown, StandsFor, StepCause};
+ghost use Rattle.run_session.specs.Promises.{MakesStep, RecordsStep, TellsStep};
+ghost use Rattle.run_session.specs.Spans.{step_span, taker_span};
+ghost use Rattle.run_session.specs.Steps.{CanStep, RestsWith, counted_by, made_of, state_with, stepped_by};
 
 use crate::course::{Course, Progress};
 use crate::failure::Failure;
@@ -97,22 +92,28 @@ fn is_binned(own: &OwnFiles) -> bool
     own.bins.is_some()
 }
 
+// Where a base step begins: the depths of the bodies, none but where they rest inside one, and the tick.
+#[derive(Clone, Copy)]
+struct Start<'a> {
+    depth: &'a Depths,
+    tick: u64,
+}
+
 // A base step where no body has a depth, and else the rest of one, told to any taker.
 fn any_step<F: Forces, O: KickOut>(
     alloc: Global,
     course: &Course,
     set: &mut BodySet,
-    depth: &Depths,
-    tick: u64,
+    start: &Start,
     known: &mut Option<Field>,
     forces: &mut F,
     out: &mut O,
 ) -> Result<StepCount, StepEnd>
     requires forces { StandsFor (F.gravity forces.old) course.now.setup.now }
     requires known { IfSome known.old (AreForcesAmong (F.gravity forces.old) set.old) }
-    requires begun { CanStep course.now.setup.now (option_copied course.now.expansion) set.old depth.now tick }
-    requires fresh { is_empty depth.now ≡ false → known.old ≡ None }
-    ensures ends { (plan : Plan) (σ : StateData) → plan.rules ≡ rules (F.gravity forces.old) (option_copied course.now.expansion) → σ.bodies ≡ set.old → σ.depths ≡ depth.now → σ.tick ≡ tick → StepEnds (F.gravity forces.old) (F.passes (F.gravity forces.old) (F.fixed forces.old)) (record { bodies = set.old; state = F.state forces.old; took = O.took out.old }) (record { bodies = set.new; state = F.state forces.new; took = O.took out.new }) (λ stop. base_step plan stop (is_known known.old) σ) tick (began course.now.setup.now.top_bin tick + 2 ^ course.now.setup.now.top_bin) result }
+    requires begun { CanStep course.now.setup.now (option_copied course.now.expansion) set.old start.now.depth.now start.now.tick }
+    requires fresh { is_empty start.now.depth.now ≡ false → known.old ≡ None }
+    ensures ends { TellsStep course.now start.now.depth.now start.now.tick known.old (taker_span F.Forces O.KickOut forces.old set.old out.old forces.new set.new out.new) result }
     ensures known { AreKnown result (F.gravity forces.old) set.new known.new }
     ensures cause { StepCause result (O.faults out.old) (O.faults out.new) (O.yes out.old) (O.yes out.new) }
     ensures same_gravity { F.gravity forces.new ≡ F.gravity forces.old }
@@ -121,6 +122,7 @@ fn any_step<F: Forces, O: KickOut>(
 {
     let setup = course.setup;
     let expansion = course.expansion;
+    let Start { depth, tick } = *start;
     if depth.len() == 0 {
         return base_step(alloc, set, setup, expansion, tick, known, forces, out);
     }
@@ -134,17 +136,16 @@ fn record_step<F: Forces, Q: Stopper>(
     alloc: Global,
     course: &Course,
     set: &mut BodySet,
-    depth: &Depths,
-    tick: u64,
+    start: &Start,
     known: &mut Option<Field>,
     forces: &mut F,
     stop: &mut Q,
 ) -> Recorded
     requires forces { StandsFor (F.gravity forces.old) course.now.setup.now }
     requires known { IfSome known.old (AreForcesAmong (F.gravity forces.old) set.old) }
-    requires begun { CanStep course.now.setup.now (option_copied course.now.expansion) set.old depth.now tick }
-    requires fresh { is_empty depth.now ≡ false → known.old ≡ None }
-    ensures recorded { (plan : Plan) (σ : StateData) (f : Files) (k : List (List ℕ)) (n : ℕ) (l : Option Call) → plan.rules ≡ rules (F.gravity forces.old) (option_copied course.now.expansion) → σ.bodies ≡ set.old → σ.depths ≡ depth.now → σ.tick ≡ tick → IsRecorded plan course.now.own.now (F.passes (F.gravity forces.old) (F.fixed forces.old)) (is_known known.old) σ set.new result.log (world f k n l (F.state forces.old) (Q.yes stop.old) (Q.left stop.old)) (world f k n l (F.state forces.new) (Q.yes stop.new) (Q.left stop.new)) result.ended }
+    requires begun { CanStep course.now.setup.now (option_copied course.now.expansion) set.old start.now.depth.now start.now.tick }
+    requires fresh { is_empty start.now.depth.now ≡ false → known.old ≡ None }
+    ensures recorded { RecordsStep course.now set.old set.new start.now.depth.now start.now.tick known.old (step_span F.Forces Q.Stopper forces.old stop.old forces.new stop.new) result }
     ensures known { AreKnown result.ended (F.gravity forces.old) set.new known.new }
     ensures cause { StepCause result.ended 0 0 (Q.yes stop.old) (Q.yes stop.new) }
     ensures same_gravity { F.gravity forces.new ≡ F.gravity forces.old }
@@ -153,16 +154,7 @@ fn record_step<F: Forces, Q: Stopper>(
     let own = course.own;
     let mut log = Log::new(alloc);
     let mut recorder = Recorder::new(alloc, stop, &mut log, is_traced(own), is_binned(own));
-    let ended = any_step(
-        alloc,
-        course,
-        set,
-        depth,
-        tick,
-        known,
-        forces,
-        &mut recorder,
-    );
+    let ended = any_step(alloc, course, set, start, known, forces, &mut recorder);
     Recorded { log, ended }
 }
 
@@ -252,9 +244,9 @@ pub(crate) fn step<F: Forces, Q: Stopper>(
     requires known { IfSome run.known (AreForcesAmong (F.gravity forces.old) run.state.bodies) }
     requires begun { IsKept (setup_of course.now.params.now) run.state }
     requires fresh { is_empty run.state.depths ≡ false → run.known ≡ None }
-    ensures gravity { F.gravity forces.new ≡ F.gravity forces.old }
-    ensures fixed { F.fixed forces.new ≡ F.fixed forces.old }
-    ensures made { IfOk result (λ s. (f : Files) (k : List (List ℕ)) (n : ℕ) (l : Option Call) → StepMade (plan_of (F.gravity forces.old) (option_copied course.now.expansion) course.now.params.now course.now.outputs.now) course.now.own.now (F.passes (F.gravity forces.old) (F.fixed forces.old)) (is_known run.known) run.state s.log (world f k n l (F.state forces.old) (Q.yes stop.old) (Q.left stop.old)) (world f k n l (F.state forces.new) (Q.yes stop.new) (Q.left stop.new)) s.made) }
+    ensures same_gravity { F.gravity forces.new ≡ F.gravity forces.old }
+    ensures same_fixed { F.fixed forces.new ≡ F.fixed forces.old }
+    ensures made { IfOk result (MakesStep course.now run (step_span F.Forces Q.Stopper forces.old stop.old forces.new stop.new)) }
     ensures err { IfErr result (λ e. e ≡ Failure.Memory) }
     ensures quiet { OnErr result (Q.yes stop.new ≡ Q.yes stop.old) }
 {
@@ -278,8 +270,12 @@ pub(crate) fn step<F: Forces, Q: Stopper>(
         kicks,
         interactions,
     };
+    let start = Start {
+        depth: &depth,
+        tick,
+    };
     let Recorded { log, ended } = record_step(
-        alloc, course, &mut set, &depth, tick, &mut known, forces, stop,
+        alloc, course, &mut set, &start, &mut known, forces, stop,
     );
     match ended {
         Ok(count) => {

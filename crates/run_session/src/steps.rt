@@ -1,19 +1,15 @@
 // All base steps of a run.
-ghost use Rattle.std.specs.Prelude.{Bool, ◌≡◌, ◌≤◌, ◌<◌, ◌*◌, ◌^◌, ℕ, List, [], Option, Some, None, IfSome, IsTrue, false, true, IfOk, IfErr, OnOk, OnErr, option_copied};
+ghost use Rattle.std.specs.Prelude.{◌≡◌, IfSome, IfOk, IfErr, OnOk, option_copied};
 ghost use Rattle.nbody_model.specs.Setups.{last_tick};
-ghost use Rattle.nbody_model.specs.Tables.{Gravity, Reaches};
-ghost use Rattle.nbody_model.specs.Evolve.{is_empty};
-ghost use Rattle.nbody_model.specs.Session.{SessionData};
+ghost use Rattle.nbody_model.specs.Tables.{Reaches};
 ghost use Rattle.param_file.specs.Settings.{IsParams, setup_of};
-ghost use Rattle.restart_files.specs.Stored.{IsKept};
-ghost use Rattle.step_engine.specs.BaseSteps.{StandsFor, is_known};
-ghost use Rattle.step_engine.specs.Told.{AreForcesAmong};
+ghost use Rattle.step_engine.specs.BaseSteps.{StandsFor};
 ghost use Rattle.run_session.specs.Causes.{FilesCause};
 ghost use Rattle.run_session.specs.Own.{AreApart};
-ghost use Rattle.run_session.specs.RunEnds.{World};
-ghost use Rattle.run_session.specs.Stages.{AreOthers, world};
-ghost use Rattle.run_session.specs.Courses.{basis_of};
-ghost use Rattle.run_session.specs.Turned.{AreStanding, Comes, HasBroken, IsAtEnd, StepsEnd};
+ghost use Rattle.run_session.specs.Promises.{BreaksFrom, MakesSteps};
+ghost use Rattle.run_session.specs.Spans.{span_by};
+ghost use Rattle.run_session.specs.Stages.{AreOthers};
+ghost use Rattle.run_session.specs.Turned.{AreStanding, IsAtEnd};
 
 use crate::course::{Course, Progress};
 use crate::failure::Failure;
@@ -40,10 +36,12 @@ pub(crate) fn whole_steps<F: Forces, S: Store, Q: Stopper>(
     requires there { AreStanding course.now.own.now (S.tells store.old) (S.file store.old) }
     requires begun { IsAtEnd (F.gravity forces.old) course.now.params.now run }
     ensures tells { S.tells store.new ≡ S.tells store.old }
+    ensures same_gravity { F.gravity forces.new ≡ F.gravity forces.old }
+    ensures same_fixed { F.fixed forces.new ≡ F.fixed forces.old }
     ensures cause { FilesCause result (S.faults store.old) (S.faults store.new) (S.last store.old) (S.last store.new) }
     ensures keeps { OnOk result (AreStanding course.now.own.now (S.tells store.old) (S.file store.new)) }
-    ensures ok { IfOk result (λ t. (A : World) (sessions : Option ℕ → SessionData) → Comes (basis_of (F.gravity forces.old) course.now (S.tells store.old) A) (F.passes (F.gravity forces.old) (F.fixed forces.old)) sessions run.state (is_known run.known) (world (S.file store.old) (S.closed store.old) (S.faults store.old) (S.last store.old) (F.state forces.old) (Q.yes stop.old) (Q.left stop.old)) → StepsEnd (basis_of (F.gravity forces.old) course.now (S.tells store.old) A) (F.passes (F.gravity forces.old) (F.fixed forces.old)) sessions (world (S.file store.new) (S.closed store.new) (S.faults store.new) (S.last store.new) (F.state forces.new) (Q.yes stop.new) (Q.left stop.new)) t) }
-    ensures err { OnErr result ((A : World) (sessions : Option ℕ → SessionData) → Comes (basis_of (F.gravity forces.old) course.now (S.tells store.old) A) (F.passes (F.gravity forces.old) (F.fixed forces.old)) sessions run.state (is_known run.known) (world (S.file store.old) (S.closed store.old) (S.faults store.old) (S.last store.old) (F.state forces.old) (Q.yes stop.old) (Q.left stop.old)) → HasBroken (basis_of (F.gravity forces.old) course.now (S.tells store.old) A) (F.passes (F.gravity forces.old) (F.fixed forces.old)) sessions (world (S.file store.new) (S.closed store.new) (S.faults store.new) (S.last store.new) (F.state forces.new) (Q.yes stop.new) (Q.left stop.new))) }
+    ensures ok { IfOk result (MakesSteps course.now run (span_by F.Forces S.Store Q.Stopper forces.old store.old stop.old forces.new store.new stop.new)) }
+    ensures err { IfErr result (BreaksFrom course.now run (span_by F.Forces S.Store Q.Stopper forces.old store.old stop.old forces.new store.new stop.new)) }
 {
     let setup = course.setup;
     let time_max = setup.time_max;

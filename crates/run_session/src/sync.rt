@@ -1,12 +1,12 @@
 // What is done at a synchronisation.
-ghost use Rattle.std.specs.Prelude.{Bool, ◌≡◌, ◌≤◌, ◌<◌, ◌^◌, ℕ, List, Option, Some, None, IfSome, false, true, IfOk, IfErr, OnOk, OnErr, not, ◌||◌, nat_lt};
-ghost use Rattle.nbody_model.specs.Tables.{Gravity};
-ghost use Rattle.nbody_model.specs.Session.{Plan, SessionData, is_due, is_kept, is_running, with_snapshot, with_restart};
+ghost use Rattle.std.specs.Prelude.{◌≡◌, ◌<◌, ◌^◌, IfSome, IfOk, IfErr, OnOk, not, ◌||◌, nat_lt};
+ghost use Rattle.nbody_model.specs.Session.{Plan, SessionData, is_due, with_restart};
 ghost use Rattle.param_file.specs.Settings.{setup_of};
 ghost use Rattle.run_session.specs.Causes.{FilesCause};
-ghost use Rattle.run_session.specs.RunEnds.{World};
-ghost use Rattle.run_session.specs.Stages.{AreOthers, HasFiles, IsAnswer, IsBrokenIn, KeepsOwn, Matches, SameTimes, SyncBreaks, SyncEnds, asks_at, kept_after, world};
-ghost use Rattle.run_session.specs.Courses.{basis_of};
+ghost use Rattle.run_session.specs.Promises.{SaveBreaks, Saves, ShowBreaks, Shows, SynchroniseBreaks, Synchronises};
+ghost use Rattle.run_session.specs.Spans.{stop_span, store_span};
+ghost use Rattle.model_laws.specs.Resumed.{SameTimes};
+ghost use Rattle.run_session.specs.Stages.{AreOthers, IsAnswer, KeepsOwn, asks_at, kept_after};
 
 use crate::course::Course;
 use crate::failure::Failure;
@@ -31,8 +31,8 @@ fn show_if<F: Forces, S: Store>(
     ensures cause { FilesCause result (S.faults store.old) (S.faults store.new) (S.last store.old) (S.last store.new) }
     ensures keeps { OnOk result (KeepsOwn course.now.own.now (S.tells store.old) (S.file store.old) (S.file store.new)) }
     ensures times { IfOk result (λ τ. SameTimes τ state) }
-    ensures ok { IfOk result (λ τ. (g : Gravity) (fixed : List ℕ) (A : World) (fs : List ℕ) (y : ℕ) (l : Option ℕ) (d : SessionData) → Matches (basis_of g course.now (S.tells store.old) A) (F.passes g fixed) d state (world (S.file store.old) (S.closed store.old) (S.faults store.old) (S.last store.old) fs y l) → Matches (basis_of g course.now (S.tells store.old) A) (F.passes g fixed) (with_snapshot due d) τ (world (S.file store.new) (S.closed store.new) (S.faults store.new) (S.last store.new) fs y l)) }
-    ensures err { OnErr result ((g : Gravity) (fixed : List ℕ) (A : World) (fs : List ℕ) (y : ℕ) (l : Option ℕ) (d : SessionData) → Matches (basis_of g course.now (S.tells store.old) A) (F.passes g fixed) d state (world (S.file store.old) (S.closed store.old) (S.faults store.old) (S.last store.old) fs y l) → IsBrokenIn (basis_of g course.now (S.tells store.old) A) (F.passes g fixed) (with_snapshot due d) (world (S.file store.new) (S.closed store.new) (S.faults store.new) (S.last store.new) fs y l)) }
+    ensures ok { IfOk result (Shows course.now due state (store_span F.Forces S.Store store.old store.new)) }
+    ensures err { IfErr result (ShowBreaks course.now due state (store_span F.Forces S.Store store.old store.new)) }
 {
     if due {
         return match show(alloc, course, state, store) {
@@ -58,8 +58,8 @@ fn save_if<F: Forces, S: Store>(
     ensures keeps { OnOk result (KeepsOwn course.now.own.now (S.tells store.old) (S.file store.old) (S.file store.new)) }
     ensures times { IfOk result (λ τ. SameTimes τ state) }
     ensures state { IfOk result (λ τ. (d : SessionData) → d.state ≡ state → (with_restart kept d).state ≡ τ) }
-    ensures ok { OnOk result ((g : Gravity) (fixed : List ℕ) (A : World) (fs : List ℕ) (y : ℕ) (l : Option ℕ) (d : SessionData) → d.state ≡ state → HasFiles (basis_of g course.now (S.tells store.old) A) (F.passes g fixed) d (world (S.file store.old) (S.closed store.old) (S.faults store.old) (S.last store.old) fs y l) → HasFiles (basis_of g course.now (S.tells store.old) A) (F.passes g fixed) (with_restart kept d) (world (S.file store.new) (S.closed store.new) (S.faults store.new) (S.last store.new) fs y l)) }
-    ensures err { OnErr result ((g : Gravity) (fixed : List ℕ) (A : World) (fs : List ℕ) (y : ℕ) (l : Option ℕ) (d : SessionData) → d.state ≡ state → HasFiles (basis_of g course.now (S.tells store.old) A) (F.passes g fixed) d (world (S.file store.old) (S.closed store.old) (S.faults store.old) (S.last store.old) fs y l) → IsBrokenIn (basis_of g course.now (S.tells store.old) A) (F.passes g fixed) (with_restart kept d) (world (S.file store.new) (S.closed store.new) (S.faults store.new) (S.last store.new) fs y l)) }
+    ensures ok { OnOk result (Saves course.now kept state (store_span F.Forces S.Store store.old store.new)) }
+    ensures err { IfErr result (SaveBreaks course.now kept state (store_span F.Forces S.Store store.old store.new)) }
 {
     if kept {
         return match save(alloc, course, state, store) {
@@ -148,8 +148,8 @@ pub(crate) fn synchronise<F: Forces, S: Store, Q: Stopper>(
     ensures cause { FilesCause result (S.faults store.old) (S.faults store.new) (S.last store.old) (S.last store.new) }
     ensures keeps { OnOk result (KeepsOwn course.now.own.now (S.tells store.old) (S.file store.old) (S.file store.new)) }
     ensures times { IfOk result (λ r. SameTimes r.0 state) }
-    ensures ok { IfOk result (λ r. (g : Gravity) (fixed : List ℕ) (A : World) (fs : List ℕ) (d : SessionData) → g.setup ≡ setup_of course.now.params.now → Matches (basis_of g course.now (S.tells store.old) A) (F.passes g fixed) d state (world (S.file store.old) (S.closed store.old) (S.faults store.old) (S.last store.old) fs (Q.yes stop.old) (Q.left stop.old)) → SyncEnds (basis_of g course.now (S.tells store.old) A) (F.passes g fixed) before d r.0 r.1 (world (S.file store.new) (S.closed store.new) (S.faults store.new) (S.last store.new) fs (Q.yes stop.new) (Q.left stop.new))) }
-    ensures err { OnErr result ((answer : Bool) × ((g : Gravity) (fixed : List ℕ) (A : World) (fs : List ℕ) (d : SessionData) → g.setup ≡ setup_of course.now.params.now → Matches (basis_of g course.now (S.tells store.old) A) (F.passes g fixed) d state (world (S.file store.old) (S.closed store.old) (S.faults store.old) (S.last store.old) fs (Q.yes stop.old) (Q.left stop.old)) → SyncBreaks (basis_of g course.now (S.tells store.old) A) (F.passes g fixed) before d answer (world (S.file store.new) (S.closed store.new) (S.faults store.new) (S.last store.new) fs (Q.yes stop.new) (Q.left stop.new)))) }
+    ensures ok { IfOk result (Synchronises course.now before state (stop_span F.Forces S.Store Q.Stopper store.old stop.old store.new stop.new)) }
+    ensures err { IfErr result (SynchroniseBreaks course.now before state (stop_span F.Forces S.Store Q.Stopper store.old stop.old store.new stop.new)) }
 {
     let params = course.params;
     let running = is_running(params, &state);

@@ -4,9 +4,10 @@ ghost use Rattle.run_session.specs.Own.{AreApart};
 
 use super::*;
 use crate::failure::Failure;
-use crate::files::{append_own, finish_own, open_own, write_restart_file, write_snapshot_file};
+use crate::files::{write_restart_file, write_snapshot_file};
 use crate::log::Log;
 use crate::names::own_names;
+use crate::open_files::{append_own, finish_own, open_own};
 use crate::own::OwnFiles;
 use crate::recorder::Recorder;
 use fixed_point::V3;

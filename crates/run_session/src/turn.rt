@@ -1,25 +1,22 @@
 // A turn of a run: a base step, what is told of it, and the synchronisation that follows.
-ghost use Rattle.std.specs.Prelude.{Bool, ◌≡◌, ◌≤◌, ◌<◌, ◌*◌, ◌^◌, ℕ, List, [], Option, Some, None, IfSome, IsTrue, false, true, IfOk, IfErr, OnOk, OnErr, option_copied};
+ghost use Rattle.std.specs.Prelude.{◌≡◌, ◌<◌, ◌*◌, ◌^◌, [], None, IfSome, false, IfOk, IfErr, OnOk, option_copied};
 ghost use Rattle.nbody_model.specs.Setups.{last_tick};
-ghost use Rattle.nbody_model.specs.States.{StateData};
-ghost use Rattle.nbody_model.specs.Tables.{Gravity, Reaches};
+ghost use Rattle.nbody_model.specs.Tables.{Reaches};
 ghost use Rattle.nbody_model.specs.Evolve.{is_empty};
-ghost use Rattle.nbody_model.specs.Session.{SessionData, with_restart};
 ghost use Rattle.param_file.specs.Settings.{IsParams, setup_of};
 ghost use Rattle.restart_files.specs.Stored.{IsKept};
 ghost use Rattle.step_engine.specs.Told.{AreForcesAmong};
-ghost use Rattle.step_engine.specs.BaseSteps.{StandsFor, is_known};
+ghost use Rattle.step_engine.specs.BaseSteps.{StandsFor};
 ghost use Rattle.run_session.specs.Causes.{FilesCause};
-ghost use Rattle.run_session.specs.Changes.{AreThere};
 ghost use Rattle.run_session.specs.Own.{AreApart};
-ghost use Rattle.run_session.specs.RunEnds.{World};
-ghost use Rattle.run_session.specs.Stages.{AreOthers, HasStopped, KeepsOwn, RestsIn, SameTimes, world};
-ghost use Rattle.run_session.specs.Courses.{basis_of};
-ghost use Rattle.run_session.specs.Turned.{AreStanding, CanFollow, Comes, ComesToSync, FollowsMade, GoesLater, HasBroken, IsMadeIn, IsTimed, StaysWith, SyncTurns, TurnEnds};
+ghost use Rattle.run_session.specs.Promises.{BreaksFrom, FollowBreaks, Follows, GoesThrough, RestBreaks, StopsAtRest, TakesTurn, ThroughBreaks};
+ghost use Rattle.run_session.specs.Spans.{span_by, stop_span, store_span};
+ghost use Rattle.run_session.specs.Stages.{AreOthers, KeepsOwn};
+ghost use Rattle.run_session.specs.Turned.{AreStanding, CanFollow, FollowsMade, GoesLater, StaysWith};
 
 use crate::course::{Course, Progress};
 use crate::failure::Failure;
-use crate::files::append_own;
+use crate::open_files::append_own;
 use crate::step::{Made, Refusal, Stepped, step};
 use crate::sync::synchronise;
 use crate::writes::save;
@@ -54,8 +51,8 @@ pub(crate) fn after_step<F: Forces, S: Store, Q: Stopper>(
     ensures cause { FilesCause result (S.faults store.old) (S.faults store.new) (S.last store.old) (S.last store.new) }
     ensures keeps { OnOk result (KeepsOwn course.now.own.now (S.tells store.old) (S.file store.old) (S.file store.new)) }
     ensures same { IfOk result (StaysWith run) }
-    ensures ok { IfOk result (λ t. (g : Gravity) (fixed : List ℕ) (A : World) (fs : List ℕ) (sessions : Option ℕ → SessionData) (known : Bool) → g.setup ≡ setup_of course.now.params.now → ComesToSync (basis_of g course.now (S.tells store.old) A) (F.passes g fixed) sessions before run.state known (world (S.file store.old) (S.closed store.old) (S.faults store.old) (S.last store.old) fs (Q.yes stop.old) (Q.left stop.old)) → SyncTurns (basis_of g course.now (S.tells store.old) A) (F.passes g fixed) sessions known (world (S.file store.new) (S.closed store.new) (S.faults store.new) (S.last store.new) fs (Q.yes stop.new) (Q.left stop.new)) t) }
-    ensures err { OnErr result ((g : Gravity) (fixed : List ℕ) (A : World) (fs : List ℕ) (sessions : Option ℕ → SessionData) (known : Bool) → g.setup ≡ setup_of course.now.params.now → ComesToSync (basis_of g course.now (S.tells store.old) A) (F.passes g fixed) sessions before run.state known (world (S.file store.old) (S.closed store.old) (S.faults store.old) (S.last store.old) fs (Q.yes stop.old) (Q.left stop.old)) → HasBroken (basis_of g course.now (S.tells store.old) A) (F.passes g fixed) sessions (world (S.file store.new) (S.closed store.new) (S.faults store.new) (S.last store.new) fs (Q.yes stop.new) (Q.left stop.new))) }
+    ensures ok { IfOk result (GoesThrough course.now before run.state (stop_span F.Forces S.Store Q.Stopper store.old stop.old store.new stop.new)) }
+    ensures err { IfErr result (ThroughBreaks course.now before run.state (stop_span F.Forces S.Store Q.Stopper store.old stop.old store.new stop.new)) }
 {
     let Progress { state, known } = run;
     let (state, stops) = match synchronise::<F, S, Q>(alloc, course, before, state, store, stop) {
@@ -80,8 +77,8 @@ fn save_rest<F: Forces, S: Store>(
     ensures tells { S.tells store.new ≡ S.tells store.old }
     ensures cause { FilesCause result (S.faults store.old) (S.faults store.new) (S.last store.old) (S.last store.new) }
     ensures keeps { OnOk result (KeepsOwn course.now.own.now (S.tells store.old) (S.file store.old) (S.file store.new)) }
-    ensures ok { IfOk result (λ τ. (g : Gravity) (fixed : List ℕ) (A : World) (sessions : Option ℕ → SessionData) (fs : List ℕ) (y : ℕ) (l : Option ℕ) → RestsIn (basis_of g course.now (S.tells store.old) A) (F.passes g fixed) sessions state (world (S.file store.old) (S.closed store.old) (S.faults store.old) (S.last store.old) fs y l) → HasStopped (basis_of g course.now (S.tells store.old) A) (F.passes g fixed) sessions τ (world (S.file store.new) (S.closed store.new) (S.faults store.new) (S.last store.new) fs y l)) }
-    ensures err { OnErr result ((g : Gravity) (fixed : List ℕ) (A : World) (sessions : Option ℕ → SessionData) (fs : List ℕ) (y : ℕ) (l : Option ℕ) → RestsIn (basis_of g course.now (S.tells store.old) A) (F.passes g fixed) sessions state (world (S.file store.old) (S.closed store.old) (S.faults store.old) (S.last store.old) fs y l) → HasBroken (basis_of g course.now (S.tells store.old) A) (F.passes g fixed) sessions (world (S.file store.new) (S.closed store.new) (S.faults store.new) (S.last store.new) fs y l)) }
+    ensures ok { IfOk result (StopsAtRest course.now state (store_span F.Forces S.Store store.old store.new)) }
+    ensures err { IfErr result (RestBreaks course.now state (store_span F.Forces S.Store store.old store.new)) }
 {
     match save(alloc, course, state, store) {
         Ok(saved) => Ok(saved),
@@ -106,8 +103,8 @@ fn after_made<F: Forces, S: Store, Q: Stopper>(
     ensures cause { FilesCause result (S.faults store.old) (S.faults store.new) (S.last store.old) (S.last store.new) }
     ensures keeps { OnOk result (KeepsOwn course.now.own.now (S.tells store.old) (S.file store.old) (S.file store.new)) }
     ensures same { IfOk result (FollowsMade made) }
-    ensures ok { IfOk result (λ t. (g : Gravity) (fixed : List ℕ) (A : World) (sessions : Option ℕ → SessionData) (fs : List ℕ) → g.setup ≡ setup_of course.now.params.now → IsMadeIn (basis_of g course.now (S.tells store.old) A) (F.passes g fixed) sessions before (world (S.file store.old) (S.closed store.old) (S.faults store.old) (S.last store.old) fs (Q.yes stop.old) (Q.left stop.old)) made → TurnEnds (basis_of g course.now (S.tells store.old) A) (F.passes g fixed) sessions (world (S.file store.new) (S.closed store.new) (S.faults store.new) (S.last store.new) fs (Q.yes stop.new) (Q.left stop.new)) t) }
-    ensures err { OnErr result ((g : Gravity) (fixed : List ℕ) (A : World) (sessions : Option ℕ → SessionData) (fs : List ℕ) → g.setup ≡ setup_of course.now.params.now → IsMadeIn (basis_of g course.now (S.tells store.old) A) (F.passes g fixed) sessions before (world (S.file store.old) (S.closed store.old) (S.faults store.old) (S.last store.old) fs (Q.yes stop.old) (Q.left stop.old)) made → HasBroken (basis_of g course.now (S.tells store.old) A) (F.passes g fixed) sessions (world (S.file store.new) (S.closed store.new) (S.faults store.new) (S.last store.new) fs (Q.yes stop.new) (Q.left stop.new))) }
+    ensures ok { IfOk result (Follows course.now before made (stop_span F.Forces S.Store Q.Stopper store.old stop.old store.new stop.new)) }
+    ensures err { IfErr result (FollowBreaks course.now before made (stop_span F.Forces S.Store Q.Stopper store.old stop.old store.new stop.new)) }
 {
     match made {
         Made::Whole(next) => {
@@ -153,14 +150,14 @@ pub(crate) fn take_turn<F: Forces, S: Store, Q: Stopper>(
     requires known { IfSome run.known (AreForcesAmong (F.gravity forces.old) run.state.bodies) }
     requires begun { IsKept (setup_of course.now.params.now) run.state }
     requires fresh { is_empty run.state.depths ≡ false → run.known ≡ None }
-    ensures gravity { F.gravity forces.new ≡ F.gravity forces.old }
-    ensures fixed { F.fixed forces.new ≡ F.fixed forces.old }
+    ensures same_gravity { F.gravity forces.new ≡ F.gravity forces.old }
+    ensures same_fixed { F.fixed forces.new ≡ F.fixed forces.old }
     ensures tells { S.tells store.new ≡ S.tells store.old }
     ensures cause { FilesCause result (S.faults store.old) (S.faults store.new) (S.last store.old) (S.last store.new) }
     ensures keeps { OnOk result (AreStanding course.now.own.now (S.tells store.old) (S.file store.new)) }
     ensures later { IfOk result (GoesLater (F.gravity forces.old) course.now.params.now run.state.tick) }
-    ensures ok { IfOk result (λ t. (A : World) (sessions : Option ℕ → SessionData) → Comes (basis_of (F.gravity forces.old) course.now (S.tells store.old) A) (F.passes (F.gravity forces.old) (F.fixed forces.old)) sessions run.state (is_known run.known) (world (S.file store.old) (S.closed store.old) (S.faults store.old) (S.last store.old) (F.state forces.old) (Q.yes stop.old) (Q.left stop.old)) → TurnEnds (basis_of (F.gravity forces.old) course.now (S.tells store.old) A) (F.passes (F.gravity forces.old) (F.fixed forces.old)) sessions (world (S.file store.new) (S.closed store.new) (S.faults store.new) (S.last store.new) (F.state forces.new) (Q.yes stop.new) (Q.left stop.new)) t) }
-    ensures err { OnErr result ((A : World) (sessions : Option ℕ → SessionData) → Comes (basis_of (F.gravity forces.old) course.now (S.tells store.old) A) (F.passes (F.gravity forces.old) (F.fixed forces.old)) sessions run.state (is_known run.known) (world (S.file store.old) (S.closed store.old) (S.faults store.old) (S.last store.old) (F.state forces.old) (Q.yes stop.old) (Q.left stop.old)) → HasBroken (basis_of (F.gravity forces.old) course.now (S.tells store.old) A) (F.passes (F.gravity forces.old) (F.fixed forces.old)) sessions (world (S.file store.new) (S.closed store.new) (S.faults store.new) (S.last store.new) (F.state forces.new) (Q.yes stop.new) (Q.left stop.new))) }
+    ensures ok { IfOk result (TakesTurn course.now run (span_by F.Forces S.Store Q.Stopper forces.old store.old stop.old forces.new store.new stop.new)) }
+    ensures err { IfErr result (BreaksFrom course.now run (span_by F.Forces S.Store Q.Stopper forces.old store.old stop.old forces.new store.new stop.new)) }
 {
     let before = last_sync(course, &run.state);
     let Stepped { log, made } = match step(alloc, course, run, forces, stop) {

@@ -1,9 +1,11 @@
 // The numbered files of a run, one after another.
-ghost use Rattle.std.specs.Prelude.{◌≡◌, IfOk, OnOk, OnErr, IfErr};
-ghost use Rattle.nbody_model.specs.Session.{Snapshot, Restart, raised64};
+ghost use Rattle.std.specs.Prelude.{◌≡◌, ◌∷◌, [], IfOk, OnOk, OnErr, IfErr};
+ghost use Rattle.nbody_model.specs.Session.{Snapshot, Restart, kept, raised64};
 ghost use Rattle.param_file.specs.Settings.{setup_of};
-ghost use Rattle.run_session.specs.Causes.{FilesCause};
-ghost use Rattle.run_session.specs.Stages.{AreOthers, KeepsOwn, WritesFile, WritesPart};
+ghost use Rattle.run_session.specs.Causes.{Blames, FilesCause};
+ghost use Rattle.run_session.specs.Outputs.{file_name};
+ghost use Rattle.run_session.specs.Promises.{BeginsFile, Writes};
+ghost use Rattle.run_session.specs.Stages.{AreOthers, KeepsOwn};
 
 use crate::course::Course;
 use crate::failure::Failure;
@@ -25,8 +27,9 @@ pub(crate) fn show<S: Store>(
     ensures cause { FilesCause result (S.faults store.old) (S.faults store.new) (S.last store.old) (S.last store.new) }
     ensures state { IfOk result (λ τ. τ ≡ record state { next_snapshot = raised64 state.next_snapshot 1 }) }
     ensures keeps { OnOk result (KeepsOwn course.now.own.now (S.tells store.old) (S.file store.old) (S.file store.new)) }
-    ensures ok { OnOk result (WritesFile course.now.params.now course.now.own.now (Snapshot state.next_snapshot state) (S.tells store.old) (S.file store.old) (S.file store.new) (S.closed store.old) (S.closed store.new)) }
-    ensures err { OnErr result (WritesPart course.now.params.now course.now.own.now (Snapshot state.next_snapshot state) (S.tells store.old) (S.file store.old) (S.file store.new) (S.closed store.old) (S.closed store.new)) }
+    ensures ok { OnOk result (Writes S.Store store.old store.new course.now (Snapshot state.next_snapshot state)) }
+    ensures err { OnErr result (BeginsFile S.Store store.old store.new course.now (Snapshot state.next_snapshot state)) }
+    ensures fault { IfErr result (Blames (file_name course.now.params.now (Snapshot state.next_snapshot state) ∷ [])) }
 {
     let params = course.params;
     let Ok(name) = numbered(alloc, &params.snapshot_file_base, state.next_snapshot) else {
@@ -54,10 +57,11 @@ pub(crate) fn save<S: Store>(
     requires setup { course.now.setup.now ≡ setup_of course.now.params.now }
     ensures tells { S.tells store.new ≡ S.tells store.old }
     ensures cause { FilesCause result (S.faults store.old) (S.faults store.new) (S.last store.old) (S.last store.new) }
-    ensures state { IfOk result (λ τ. τ ≡ record state { next_restart = raised64 state.next_restart 1 }) }
+    ensures state { IfOk result (λ τ. τ ≡ kept state) }
     ensures keeps { OnOk result (KeepsOwn course.now.own.now (S.tells store.old) (S.file store.old) (S.file store.new)) }
-    ensures ok { OnOk result (WritesFile course.now.params.now course.now.own.now (Restart state.next_restart (record state { next_restart = raised64 state.next_restart 1 })) (S.tells store.old) (S.file store.old) (S.file store.new) (S.closed store.old) (S.closed store.new)) }
-    ensures err { OnErr result (WritesPart course.now.params.now course.now.own.now (Restart state.next_restart (record state { next_restart = raised64 state.next_restart 1 })) (S.tells store.old) (S.file store.old) (S.file store.new) (S.closed store.old) (S.closed store.new)) }
+    ensures ok { OnOk result (Writes S.Store store.old store.new course.now (Restart state.next_restart (kept state))) }
+    ensures err { OnErr result (BeginsFile S.Store store.old store.new course.now (Restart state.next_restart (kept state))) }
+    ensures fault { IfErr result (Blames (file_name course.now.params.now (Restart state.next_restart (kept state)) ∷ [])) }
 {
     let params = course.params;
     let Ok(name) = numbered(alloc, &params.restart_file_base, state.next_restart) else {

@@ -1,24 +1,25 @@
 use Rattle.std.proofs.Common.{false, sym, subst}
 use Rattle.nbody_model.specs.Session.{session}
-use Rattle.run_session.specs.Stages.{world}
 use Rattle.run_session.specs.Courses.{basis_of}
 use Rattle.run_session.specs.Turned.{Comes, HasBroken, SyncTurns}
 use Rattle.run_session.proofs.Starting.{resumed_comes, begun_comes}
+use Rattle.run_session.specs.Worlds.{world_by}
+use Rattle.run_session.specs.Causes.{fault_of}
 use Rattle.run_session.proofs.session.start.Goals as goal
 
 pub returns-then-resumed-clause-ok : goal.returns-then-resumed-clause-ok
 returns-then-resumed-clause-ok g c = λ gr fixed A fs gs m.
     let C = basis_of gr c.args.course.now (g.S.Store.tells c.args.store.now) A in
     let passes = g.F.Forces.passes gr fixed in
-    let old = world (g.S.Store.file c.args.store.now) (g.S.Store.closed c.args.store.now) (g.S.Store.faults c.args.store.now) (g.S.Store.last c.args.store.now) fs (g.Q.Stopper.yes c.args.stop.now) (g.Q.Stopper.left c.args.stop.now) in
+    let old = world_by g.S.Store g.Q.Stopper c.args.store.now c.args.stop.now fs in
     subst (λ b. Comes C passes (λ s. session C.plan b s c.args.state) c.args.state false old) (sym c.if-resumed.true) (resumed_comes C passes c.args.state old m)
 
 pub returns-in-Ok-clause-ok : goal.returns-in-Ok-clause-ok
 returns-in-Ok-clause-ok g c = λ gr fixed A fs gs m.
     let C = basis_of gr c.args.course.now (g.S.Store.tells c.args.store.now) A in
     let passes = g.F.Forces.passes gr fixed in
-    let old = world (g.S.Store.file c.args.store.now) (g.S.Store.closed c.args.store.now) (g.S.Store.faults c.args.store.now) (g.S.Store.last c.args.store.now) fs (g.Q.Stopper.yes c.args.stop.now) (g.Q.Stopper.left c.args.stop.now) in
-    let new = world (g.S.Store.file c.after_step.new.store) (g.S.Store.closed c.after_step.new.store) (g.S.Store.faults c.after_step.new.store) (g.S.Store.last c.after_step.new.store) fs (g.Q.Stopper.yes c.after_step.new.stop) (g.Q.Stopper.left c.after_step.new.stop) in
+    let old = world_by g.S.Store g.Q.Stopper c.args.store.now c.args.stop.now fs in
+    let new = world_by g.S.Store g.Q.Stopper c.after_step.new.store c.after_step.new.stop fs in
     subst (λ b. SyncTurns C passes (λ s. session C.plan b s c.args.state) false new c.in-Ok.turn) (sym c.if-resumed.false)
     (c.in-Ok.ensures.ok gr fixed A fs (λ s. session C.plan false s c.args.state) false gs (begun_comes C passes c.args.state old m))
 
@@ -26,7 +27,7 @@ pub returns-in-Err-clause-err : goal.returns-in-Err-clause-err
 returns-in-Err-clause-err g c = λ gr fixed A fs gs m.
     let C = basis_of gr c.args.course.now (g.S.Store.tells c.args.store.now) A in
     let passes = g.F.Forces.passes gr fixed in
-    let old = world (g.S.Store.file c.args.store.now) (g.S.Store.closed c.args.store.now) (g.S.Store.faults c.args.store.now) (g.S.Store.last c.args.store.now) fs (g.Q.Stopper.yes c.args.stop.now) (g.Q.Stopper.left c.args.stop.now) in
-    let new = world (g.S.Store.file c.after_step.new.store) (g.S.Store.closed c.after_step.new.store) (g.S.Store.faults c.after_step.new.store) (g.S.Store.last c.after_step.new.store) fs (g.Q.Stopper.yes c.after_step.new.stop) (g.Q.Stopper.left c.after_step.new.stop) in
-    subst (λ b. HasBroken C passes (λ s. session C.plan b s c.args.state) new) (sym c.if-resumed.false)
+    let old = world_by g.S.Store g.Q.Stopper c.args.store.now c.args.stop.now fs in
+    let new = world_by g.S.Store g.Q.Stopper c.after_step.new.store c.after_step.new.stop fs in
+    subst (λ b. HasBroken C passes (λ s. session C.plan b s c.args.state) (fault_of c.in-Err.failure) new) (sym c.if-resumed.false)
     (c.in-Err.ensures.err gr fixed A fs (λ s. session C.plan false s c.args.state) false gs (begun_comes C passes c.args.state old m))

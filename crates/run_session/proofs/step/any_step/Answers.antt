@@ -12,7 +12,7 @@ returns-then-len-eq0-clause-ends g c = λ plan σ same b d e.
     begins_whole gr (g.F.Forces.passes gr (g.F.Forces.fixed c.args.forces.now))
     (record { bodies = c.args.set.now; state = g.F.Forces.state c.args.forces.now; took = g.O.KickOut.took c.args.out.now })
     (record { bodies = c.base_step.new.set; state = g.F.Forces.state c.base_step.new.forces; took = g.O.KickOut.took c.base_step.new.out })
-    plan r (is_known c.args.known.now) σ same c.args.course.now.setup.now c.args.set.now c.args.depth.now c.args.tick c.base_step.result b d e c.requires.begun.here (sym c.len.ensures ∙ c.if-len-eq0.true) c.base_step.ensures.ends
+    plan r (is_known c.args.known.now) σ same c.args.course.now.setup.now c.args.set.now c.args.start.now.depth.now c.args.start.now.tick c.base_step.result b d e c.requires.begun.here (sym c.len.ensures ∙ c.if-len-eq0.true) c.base_step.ensures.ends
 
 pub returns-clause-ends : goal.returns-clause-ends
 returns-clause-ends g c = λ plan σ same b d e.
@@ -21,4 +21,4 @@ returns-clause-ends g c = λ plan σ same b d e.
     begins_rest gr (g.F.Forces.passes gr (g.F.Forces.fixed c.args.forces.now))
     (record { bodies = c.args.set.now; state = g.F.Forces.state c.args.forces.now; took = g.O.KickOut.took c.args.out.now })
     (record { bodies = c.finish_step.new.set; state = g.F.Forces.state c.finish_step.new.forces; took = g.O.KickOut.took c.finish_step.new.out })
-    plan r (is_known c.args.known.now) σ same c.args.depth.now c.args.tick _ c.finish_step.result d (λ e0. c.if-len-eq0.false (c.len.ensures ∙ e0)) (c.finish_step.ensures.ends σ b d e)
+    plan r (is_known c.args.known.now) σ same c.args.start.now.depth.now c.args.start.now.tick _ c.finish_step.result d (λ e0. c.if-len-eq0.false (c.len.ensures ∙ e0)) (c.finish_step.ensures.ends σ b d e)

@@ -6,9 +6,9 @@ use Rattle.restart_files.specs.Stored.{IsKept}
 use Rattle.step_engine.specs.BaseSteps.{AreKnown, is_known}
 use Rattle.run_session.specs.declared.step.Counters.{Counters}
 use Rattle.run_session.specs.RunEnds.{plan_of}
-use Rattle.run_session.specs.Stages.{world}
 use Rattle.run_session.specs.Steps.{CanStep, IsRecorded, state_with, stepped_by}
 use Rattle.run_session.proofs.Stepped.{can_step, has_room, whole_made, halt_made, rests_with}
+use Rattle.run_session.specs.Worlds.{world}
 use Rattle.run_session.proofs.step.step.Goals as goal
 
 pub record_step-log-requires-clause-begun : goal.record_step-log-requires-clause-begun

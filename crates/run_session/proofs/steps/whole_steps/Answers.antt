@@ -9,10 +9,9 @@ use Rattle.step_engine.specs.BaseSteps.{is_known}
 use Rattle.run_session.specs.declared.course.Course.{Course}
 use Rattle.run_session.specs.declared.turn.Turn.{Turn}
 use Rattle.run_session.specs.declared.turn.Turn.TheVariants as turns
-use Rattle.run_session.specs.RunEnds.{World}
-use Rattle.run_session.specs.Stages.{world}
 use Rattle.run_session.specs.Courses.{basis_of}
 use Rattle.run_session.specs.Turned.{Comes, GoesLater, TurnEnds}
+use Rattle.run_session.specs.Worlds.{World, world_by}
 use Rattle.run_session.proofs.steps.whole_steps.Goals as goal
 
 -- a turn by forces and a store that stand as before
@@ -31,8 +30,8 @@ steps-preserved g c =
     let next = c.in-On.next in
     let gr = g.F.Forces.gravity c.args.forces.now in
     let fx = g.F.Forces.fixed c.args.forces.now in
-    let old = world (g.S.Store.file c.steps.store) (g.S.Store.closed c.steps.store) (g.S.Store.faults c.steps.store) (g.S.Store.last c.steps.store) (g.F.Forces.state c.steps.forces) (g.Q.Stopper.yes c.steps.stop) (g.Q.Stopper.left c.steps.stop) in
-    let new = world (g.S.Store.file c.take_turn.new.store) (g.S.Store.closed c.take_turn.new.store) (g.S.Store.faults c.take_turn.new.store) (g.S.Store.last c.take_turn.new.store) (g.F.Forces.state c.take_turn.new.forces) (g.Q.Stopper.yes c.take_turn.new.stop) (g.Q.Stopper.left c.take_turn.new.stop) in
+    let old = world_by g.S.Store g.Q.Stopper c.steps.store c.steps.stop (g.F.Forces.state c.steps.forces) in
+    let new = world_by g.S.Store g.Q.Stopper c.take_turn.new.store c.take_turn.new.stop (g.F.Forces.state c.take_turn.new.forces) in
     let later : GoesLater (g.F.Forces.gravity c.steps.forces) c.args.course.now.params.now c.steps.now.state.tick (turns.On next) = subst (GoesLater (g.F.Forces.gravity c.steps.forces) c.args.course.now.params.now c.steps.now.state.tick) c.in-On.is done.later in
     let timed = later.0 in
     let keeps = done.keeps in
@@ -40,8 +39,8 @@ steps-preserved g c =
       tells = done.tells ∙ i.tells;
       faults = done.cause.faults ∙ i.faults;
       last = done.cause.last ∙ i.last;
-      gravity = done.gravity ∙ i.gravity;
-      fixed = done.fixed ∙ i.fixed;
+      gravity = done.same_gravity ∙ i.gravity;
+      fixed = done.same_fixed ∙ i.fixed;
       there = λ told. keeps (subst (λ b. IsTrue b) (sym i.tells) told);
       begun = record { depths = timed.depths; tick = timed.tick; forces = subst (λ (h : Gravity). IfSome next.known (AreForcesAmong h next.state.bodies)) i.gravity timed.forces };
       comes = λ A sessions h.
@@ -55,8 +54,8 @@ returns-in-Stopped-clause-ok g c = λ A sessions h.
     let i = c.steps.invariant in
     let gr = g.F.Forces.gravity c.args.forces.now in
     let fx = g.F.Forces.fixed c.args.forces.now in
-    let old = world (g.S.Store.file c.steps.store) (g.S.Store.closed c.steps.store) (g.S.Store.faults c.steps.store) (g.S.Store.last c.steps.store) (g.F.Forces.state c.steps.forces) (g.Q.Stopper.yes c.steps.stop) (g.Q.Stopper.left c.steps.stop) in
-    let new = world (g.S.Store.file c.take_turn.new.store) (g.S.Store.closed c.take_turn.new.store) (g.S.Store.faults c.take_turn.new.store) (g.S.Store.last c.take_turn.new.store) (g.F.Forces.state c.take_turn.new.forces) (g.Q.Stopper.yes c.take_turn.new.stop) (g.Q.Stopper.left c.take_turn.new.stop) in
+    let old = world_by g.S.Store g.Q.Stopper c.steps.store c.steps.stop (g.F.Forces.state c.steps.forces) in
+    let new = world_by g.S.Store g.Q.Stopper c.take_turn.new.store c.take_turn.new.stop (g.F.Forces.state c.take_turn.new.forces) in
     subst (TurnEnds (basis_of gr c.args.course.now (g.S.Store.tells c.args.store.now) A) (g.F.Forces.passes gr fx) sessions new) c.in-Stopped.is
     (same_turn g.F.Forces.passes c.args.course.now c.steps.now.state (is_known c.steps.now.known) old new c.in-Ok.turn (g.F.Forces.gravity c.steps.forces) gr (g.F.Forces.fixed c.steps.forces) fx (g.S.Store.tells c.steps.store) (g.S.Store.tells c.args.store.now) i.gravity i.fixed i.tells c.in-Ok.ensures.ok A sessions (i.comes A sessions h))
 
@@ -65,7 +64,7 @@ returns-in-Refused-clause-ok g c = λ A sessions h.
     let i = c.steps.invariant in
     let gr = g.F.Forces.gravity c.args.forces.now in
     let fx = g.F.Forces.fixed c.args.forces.now in
-    let old = world (g.S.Store.file c.steps.store) (g.S.Store.closed c.steps.store) (g.S.Store.faults c.steps.store) (g.S.Store.last c.steps.store) (g.F.Forces.state c.steps.forces) (g.Q.Stopper.yes c.steps.stop) (g.Q.Stopper.left c.steps.stop) in
-    let new = world (g.S.Store.file c.take_turn.new.store) (g.S.Store.closed c.take_turn.new.store) (g.S.Store.faults c.take_turn.new.store) (g.S.Store.last c.take_turn.new.store) (g.F.Forces.state c.take_turn.new.forces) (g.Q.Stopper.yes c.take_turn.new.stop) (g.Q.Stopper.left c.take_turn.new.stop) in
+    let old = world_by g.S.Store g.Q.Stopper c.steps.store c.steps.stop (g.F.Forces.state c.steps.forces) in
+    let new = world_by g.S.Store g.Q.Stopper c.take_turn.new.store c.take_turn.new.stop (g.F.Forces.state c.take_turn.new.forces) in
     subst (TurnEnds (basis_of gr c.args.course.now (g.S.Store.tells c.args.store.now) A) (g.F.Forces.passes gr fx) sessions new) c.in-Refused.is
     (same_turn g.F.Forces.passes c.args.course.now c.steps.now.state (is_known c.steps.now.known) old new c.in-Ok.turn (g.F.Forces.gravity c.steps.forces) gr (g.F.Forces.fixed c.steps.forces) fx (g.S.Store.tells c.steps.store) (g.S.Store.tells c.args.store.now) i.gravity i.fixed i.tells c.in-Ok.ensures.ok A sessions (i.comes A sessions h))

@@ -1,6 +1,6 @@
 use Rattle.std.proofs.Common.{◌∙◌}
 use Rattle.run_session.proofs.OwnChanges.{opened_in_part}
-use Rattle.run_session.proofs.files.open_bin_file.Goals as goal
+use Rattle.run_session.proofs.open_files.open_bin_file.Goals as goal
 
 pub returns-clause-part : goal.returns-clause-part
 returns-clause-part g c = λ t.
