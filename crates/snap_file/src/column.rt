@@ -1,7 +1,7 @@
 // The four columns of a snapshot, one entry for each body.
-ghost use Rattle.std.specs.Prelude.{◌≡◌, ◌≤◌, ◌*◌, ◌++◌, OnOk, slice_index, get_or, pos};
-ghost use Rattle.fixed_point.specs.Bytes.{bytes32, bytes64, signed_bytes64};
-ghost use Rattle.snap_file.specs.Columns.{entry_of, name_of, width_of};
+ghost use Rattle.std.specs.Prelude.{◌≡◌, ◌≤◌, ◌*◌, ◌++◌, OnOk, slice_index};
+ghost use Rattle.fixed_point.specs.Bytes.{bytes32, bytes64};
+ghost use Rattle.snap_file.specs.Columns.{and_momentum, entry_of, name_of, width_of};
 
 use fixed_point::Memory;
 use nbody_model::Body;
@@ -87,8 +87,7 @@ fn push_position(out: &mut Vec<u8>, at: [u32; 3]) -> Result<(), Memory>
 }
 
 fn push_momentum(out: &mut Vec<u8>, mom: [i64; 3]) -> Result<(), Memory>
-    ensures { OnOk result (out.new.items ≡ out.old.items
-        ++ signed_bytes64 (get_or mom 0 (pos 0)) ++ signed_bytes64 (get_or mom 1 (pos 0)) ++ signed_bytes64 (get_or mom 2 (pos 0))) }
+    ensures { OnOk result (out.new.items ≡ and_momentum out.old.items mom) }
 {
     push_bytes(out, &mom[0].to_le_bytes())?;
     push_bytes(out, &mom[1].to_le_bytes())?;
