@@ -1,7 +1,6 @@
--- Bodies that a file has room for, and a momentum in a file.
-use Rattle.std.specs.Prelude.{◌<◌, ◌≤◌, ◌^◌, ◌++◌, ℕ, ℤ, pos, List, get_or}
+-- Bodies that a file has room for.
+use Rattle.std.specs.Prelude.{◌<◌, ◌≤◌, ◌^◌}
 use Rattle.cell_space.specs.Cells.{InBox}
-use Rattle.fixed_point.specs.Bytes.{signed_bytes64}
 use Rattle.nbody_model.specs.Bodies.{BodyData, IsInRange}
 
 -- a kind, a mass, an id, a position and a momentum that a file has room for
@@ -13,7 +12,3 @@ pub record IsStorable (b : BodyData) : Type 0 where
   pub id : b.id < 2 ^ 64
   pub in_box : InBox b.motion.pos
   pub momentum : IsInRange b.motion.mom
-
--- the bytes of a momentum, by its components
-abbrev pub momentum_bytes : List ℤ → List ℕ
-momentum_bytes p = signed_bytes64 (get_or p 0 (pos 0)) ++ signed_bytes64 (get_or p 1 (pos 0)) ++ signed_bytes64 (get_or p 2 (pos 0))

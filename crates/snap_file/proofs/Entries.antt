@@ -1,16 +1,14 @@
 -- The entries of columns, read back to the rows of bodies.
-use Rattle.std.proofs.Common.{◌≡◌, ℕ, zero, suc, ◌+◌, ◌*◌, ◌<◌, ◌^◌, ℤ, pos, ◌≤ℤ◌, neg_ℤ, List, [], ◌∷◌, ◌++◌, length, get_or, drop, map, SFits, w64, refl, sym, ap, ◌∙◌, arith, drop-drop, drop_at, le_of_suc-le-suc}
+use Rattle.std.proofs.Common.{◌≡◌, ℕ, zero, suc, ◌+◌, ◌*◌, ◌<◌, List, [], ◌∷◌, ◌++◌, length, get_or, drop, refl, sym, ap, ◌∙◌, arith, drop-drop, drop_at, le_of_suc-le-suc}
 use Rattle.std.specs.List.{flat_map}
-use Rattle.std.proofs.lemmas.Int.{fits_signed_from_abs, ints}
 use Rattle.fixed_point.specs.Bytes.{bytes32, signed_bytes64, word32_at, word64_at, signed64_at}
 use Rattle.fixed_point.proofs.ReadBack.{word32_back, word64_back, signed64_back, behind}
 use Rattle.nbody_model.specs.Bodies.{BodyData}
 use Rattle.nbody_model.specs.SnapshotText.{position_text, momentum_text, id_text, mass_text}
-use Rattle.particle_set.specs.declared.row.Row.{Row}
-use Rattle.particle_set.specs.Rows.{body_of}
 use Rattle.snap_file.specs.Kinds.{kind_at}
 use Rattle.snap_file.specs.Snapshots.{ColumnTexts, row_in}
-use Rattle.snap_file.specs.Stored.{IsStorable}
+use Rattle.particle_set.specs.Stored.{IsStorable}
+use Rattle.particle_set.proofs.StoredRows.{row_of, signed_fits}
 
 -- the entry at a place, in a column whose entries have one width
 entry_at : (f : BodyData → List ℕ) (w : ℕ) → ((b : BodyData) → length (f b) ≡ w) → (cs : List BodyData) (i : ℕ) (d : BodyData) → i < length cs
@@ -29,27 +27,6 @@ entry_at f w e (c ∷ cs) (suc i) d l =
 -- the columns of bodies
 unfoldable pub columns_of : List BodyData → ColumnTexts
 columns_of cs = record { positions = flat_map position_text cs; momenta = flat_map momentum_text cs; ids = flat_map id_text cs; masses = flat_map mass_text cs }
-
-unfoldable pub row_of : BodyData → Row
-row_of b =
-    record {
-      id = b.id;
-      kind = b.kind;
-      mass = b.mass;
-      pos = b.motion.pos.x ∷ b.motion.pos.y ∷ b.motion.pos.z ∷ [];
-      mom = b.motion.mom.x ∷ b.motion.mom.y ∷ b.motion.mom.z ∷ [];
-    }
-
-pub body_of_row : (b : BodyData) → body_of (row_of b) ≡ b
-unfolding row_of
-body_of_row b = refl
-
-pub bodies_of_rows : (bs : List BodyData) → map body_of (map row_of bs) ≡ bs
-bodies_of_rows [] = refl
-bodies_of_rows (b ∷ bs) = ap (λ x. x ∷ map body_of (map row_of bs)) (body_of_row b) ∙ ap (λ xs. b ∷ xs) (bodies_of_rows bs)
-
-pub signed_fits : (z : ℤ) → neg_ℤ (pos (2 ^ 62)) ≤ℤ z → z ≤ℤ pos (2 ^ 62) → SFits w64 z
-signed_fits z l h = fits_signed_from_abs w64 z (omega (arith, ints, l, h))
 
 -- the row at a place is the one of the body there
 pub row_back : (counts : List ℕ) (cs : List BodyData) (i : ℕ) (d : BodyData) → i < length cs → kind_at counts i ≡ (get_or cs i d).kind

@@ -6,7 +6,7 @@ use Rattle.std.proofs.lemmas.List.Sorted.{IsPermutation-refl, IsPermutation-tran
 use Rattle.nbody_model.specs.Bodies.{BodyData}
 use Rattle.nbody_model.specs.SnapshotText.{of_kind, by_kind}
 use Rattle.snap_file.specs.Kinds.{kind_at}
-use Rattle.snap_file.specs.Stored.{IsStorable}
+use Rattle.particle_set.specs.Stored.{IsStorable}
 use Rattle.snap_file.proofs.Writes.{length-by_kind}
 
 -- each body of the list has this kind

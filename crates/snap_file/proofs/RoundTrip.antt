@@ -1,8 +1,7 @@
 -- A snapshot that was written is read to its head and its bodies.
-use Rattle.std.proofs.Common.{◌≡◌, ℕ, zero, suc, ◌+◌, ◌*◌, ◌<◌, ◌≤◌, ◌^◌, ◌==◌, Bool, false, cond, not, nat_lt, List, [], ◌∷◌, length, map, sum, All, IsPermutation, Option, Some, None, refl, sym, ap, subst, ◌∙◌, append_assoc, append-nil, arith, eq-eqb, le-ltb, le_of_suc-le-suc, pos}
+use Rattle.std.proofs.Common.{◌≡◌, ℕ, ◌+◌, ◌*◌, ◌<◌, ◌≤◌, ◌^◌, ◌==◌, Bool, false, cond, not, nat_lt, List, [], ◌∷◌, length, map, sum, All, IsPermutation, Option, Some, None, refl, sym, ap, subst, ◌∙◌, append_assoc, append-nil, arith, eq-eqb, le-ltb, pos}
 use Rattle.std.proofs.lemmas.List.{get_or-map, length-map}
 use Rattle.std.proofs.lemmas.List.FromFn.{fill_by_all}
-use Rattle.std.proofs.lemmas.List.Elements.{All-head, All-tail}
 use Rattle.std.proofs.lemmas.List.Sorted.{All-permutation, IsPermutation-sym, length_permutation}
 use Rattle.fixed_point.specs.Bytes.{word32_at, word64_at}
 use Rattle.fixed_point.proofs.ReadBack.{word32_back, word64_back}
@@ -13,8 +12,10 @@ use Rattle.particle_set.specs.declared.row.Row.{Row}
 use Rattle.particle_set.specs.Rows.{IsSetOf, HasMass, HasMomentum, body_of}
 use Rattle.snap_file.specs.declared.column.Column.TheVariants.{Positions, Momenta, Ids, Masses}
 use Rattle.snap_file.specs.Snapshots.{ColumnTexts, HasHead, HasColumns, SpellsHead, SpellsSnapshot, head_in, head_fault, counts_fault, lengths_fault, row_in, rows_in}
-use Rattle.snap_file.specs.Stored.{IsStorable, ReadsWritten, head_of}
-use Rattle.snap_file.proofs.Entries.{columns_of, row_of, row_back, bodies_of_rows}
+use Rattle.particle_set.specs.Stored.{IsStorable}
+use Rattle.particle_set.proofs.StoredRows.{row_of, bodies_of_rows, rows_massive, rows_in_range}
+use Rattle.snap_file.specs.Stored.{ReadsWritten, head_of}
+use Rattle.snap_file.proofs.Entries.{columns_of, row_back}
 use Rattle.snap_file.proofs.FiveBlocks.{part, parts_of, blocks_of, AreShort, AreFound, are_blocks, are_found}
 use Rattle.snap_file.proofs.InKinds.{counts_of, sum_of_counts, kind_back, by_kind_moves}
 use Rattle.snap_file.proofs.Writes.{length-head, length-entries, length-by_kind}
@@ -93,19 +94,6 @@ right_counts B l = unmet (nat_lt 1048576 (sum (counts_of B))) _ (le-ltb 1048576 
 blank : BodyData
 blank = record { id = 0; kind = 1; mass = 1; motion = record { pos = record { x = 0; y = 0; z = 0 }; mom = record { x = pos 0; y = pos 0; z = pos 0 } } }
 
-all_rows : (P : Row → Type 0) → ((b : BodyData) → IsStorable b → P (row_of b)) → (cs : List BodyData) → All IsStorable cs → All P (map row_of cs)
-all_rows P f [] s k d l = absurd (omega (arith, l))
-all_rows P f (c ∷ cs) s zero d l = f c (All-head IsStorable c cs s)
-all_rows P f (c ∷ cs) s (suc k) d l = all_rows P f cs (All-tail IsStorable c cs s) k d (le_of_suc-le-suc l)
-
-mass_of_row : (b : BodyData) → IsStorable b → HasMass (row_of b)
-unfolding row_of
-mass_of_row b s = record { low = s.heavy }
-
-momentum_of_row : (b : BodyData) → IsStorable b → HasMomentum (row_of b)
-unfolding row_of
-momentum_of_row b s = record { in_range = s.momentum }
-
 -- the rows are those of the bodies
 rows_back : (B : List BodyData) → All IsStorable (by_kind B) → rows_in (counts_of B) (columns_of (by_kind B)) ≡ map row_of (by_kind B)
 rows_back B s =
@@ -119,8 +107,8 @@ set_of_rows : (B : List BodyData) (rows : List Row) → IsValid B → All IsStor
 set_of_rows B rows v s t e = record {
   bodies = subst (λ bs. IsPermutation bs B) (sym (ap (map body_of) e ∙ bodies_of_rows (by_kind B))) (by_kind_moves B s);
   valid = v;
-  massive = subst (All HasMass) (sym e) (all_rows HasMass mass_of_row (by_kind B) t);
-  in_range = subst (All HasMomentum) (sym e) (all_rows HasMomentum momentum_of_row (by_kind B) t);
+  massive = subst (All HasMass) (sym e) (rows_massive (by_kind B) t);
+  in_range = subst (All HasMomentum) (sym e) (rows_in_range (by_kind B) t);
 }
 
 pub reads_written : ReadsWritten

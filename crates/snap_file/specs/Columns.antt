@@ -1,5 +1,6 @@
 -- The columns of a snapshot.
-use Rattle.std.specs.Prelude.{ℕ, List}
+use Rattle.std.specs.Prelude.{◌++◌, ℕ, ℤ, pos, List, get_or}
+use Rattle.fixed_point.specs.Bytes.{signed_bytes64}
 use Rattle.nbody_model.specs.Bodies.{BodyData}
 use Rattle.nbody_model.specs.SnapshotText.{position_name, momentum_name, id_name, mass_name, position_text, momentum_text, id_text, mass_text}
 use Rattle.snap_file.specs.declared.column.Column.{Column}
@@ -23,3 +24,4 @@ entry_of Positions b = position_text b
 entry_of Momenta b = momentum_text b
 entry_of Ids b = id_text b
 entry_of Masses b = mass_text b
+

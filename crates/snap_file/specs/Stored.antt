@@ -1,20 +1,10 @@
--- Bodies that a snapshot has room for, and what reading their snapshot gives.
-use Rattle.std.specs.Prelude.{◌<◌, ◌≤◌, ◌^◌, ℕ, List, [], ◌∷◌, length, All}
-use Rattle.nbody_model.specs.Bodies.{BodyData, IsInRange, IsValid}
+-- Bodies that a snapshot has room for are read back from it.
+use Rattle.std.specs.Prelude.{◌<◌, ◌^◌, ℕ, List, [], ◌∷◌, length, All}
+use Rattle.nbody_model.specs.Bodies.{BodyData, IsValid}
 use Rattle.nbody_model.specs.SnapshotText.{of_kind, snapshot_text}
-use Rattle.cell_space.specs.Cells.{InBox}
+use Rattle.particle_set.specs.Stored.{IsStorable}
 use Rattle.snap_file.specs.declared.head.Head.{Head}
 use Rattle.snap_file.specs.Snapshots.{SpellsHead, SpellsSnapshot}
-
--- a kind, a mass, an id, a position and a momentum that a snapshot has room for
-pub record IsStorable (b : BodyData) : Type 0 where
-  pub kind_low : 1 ≤ b.kind
-  pub kind_high : b.kind ≤ 5
-  pub heavy : 1 ≤ b.mass
-  pub light : b.mass < 2 ^ 32
-  pub id : b.id < 2 ^ 64
-  pub in_box : InBox b.motion.pos
-  pub momentum : IsInRange b.motion.mom
 
 -- the head of a snapshot of these bodies
 abbrev pub head_of : List BodyData → ℕ → ℕ → Head

@@ -1,28 +1,8 @@
 // What reading a snapshot gives after it was written.
-ghost use Rattle.std.specs.Prelude.{All};
 ghost use Rattle.snap_file.specs.Exact.{ReadOneWay};
-ghost use Rattle.snap_file.specs.Stored.{IsReadBack, IsStorable};
+ghost use Rattle.snap_file.specs.Stored.{IsReadBack};
 
-use nbody_model::Body;
-use particle_set::BodySet;
-
-fn is_storable(body: &Body)
-    ensures { IsStorable body.now }
-{
-    let _position = body.motion.pos();
-    let _momentum = body.motion.mom();
-    let _id = body.id;
-    let _kind = body.kind;
-    let _mass = body.mass;
-}
-
-fn are_storable(bodies: &[Body])
-    ensures { All IsStorable bodies.now }
-{
-    for body in bodies {
-        is_storable(body);
-    }
-}
+use particle_set::{BodySet, are_storable};
 
 /// The text of a snapshot of these bodies is read to its head and to the same bodies. It reads each body once.
 pub fn written_snapshots_are_read(set: &BodySet, tick: u64, number: u32)

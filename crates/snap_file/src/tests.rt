@@ -1,4 +1,4 @@
-ghost use Rattle.std.specs.Prelude.{All, IfOk};
+ghost use Rattle.std.specs.Prelude.{◌≤◌, All, IfOk};
 ghost use Rattle.particle_set.specs.Rows.{HasKind};
 
 use super::*;
@@ -48,20 +48,147 @@ fn framed_wrong(at: u64, kind: BlockKind) -> SnapErr {
     SnapErr::Block(BlockErr { at, kind })
 }
 
+// The snapshot of the two bodies, as another program writes it.
+fn pair_bytes(alloc: Global) -> Result<Vec<u8>, Fail> {
+    let mut bytes = Vec::from_slice(alloc, b"\x08\0\0\0HEAD\x08\x01\0\0\x08\0\0\0\0\x01\0\0")?;
+    bytes.extend_from_slice(
+        b"I4SNAP01\0\0\0\0\x02\0\0\0\0\0\0\0\0\0\0\0\0\0\0\0\0\0\0\0\x02\0\0\0\0\0\0\0\0\0\0\0",
+    )?;
+    bytes.extend_from_slice(&[0; 212])?;
+    bytes.extend_from_slice(b"\0\x01\0\0")?;
+    bytes.extend_from_slice(
+        b"\x08\0\0\0POS  \0\0\0\x08\0\0\0\x18\0\0\0\0\0\0\0\0\0\0\0\0\0\0\0\xe7\x03\0\0\0\0\0\0",
+    )?;
+    bytes.extend_from_slice(b"\0\0\0\0\x18\0\0\0")?;
+    bytes.extend_from_slice(
+        b"\x08\0\0\0MOM 8\0\0\0\x08\0\0\00\0\0\0\xda\x8a\x1e\0\0\0\0\0\0\0\0\0\0\0\0\0\0\0\0\0",
+    )?;
+    bytes.extend_from_slice(
+        b"\0\0\0\0&u\xe1\xff\xff\xff\xff\xff\0\0\0\0\0\0\0\0\0\0\0\0\0\0\0\00\0\0\0",
+    )?;
+    bytes.extend_from_slice(
+        b"\x08\0\0\0ID  \x18\0\0\0\x08\0\0\0\x10\0\0\0\x01\0\0\0\0\0\0\0\x02\0\0\0\0\0\0\0\x10\0\0\0",
+    )?;
+    bytes.extend_from_slice(
+        b"\x08\0\0\0MASS\x10\0\0\0\x08\0\0\0\x08\0\0\0\0\x04\0\0\0\x04\0\0\x08\0\0\0",
+    )?;
+    Ok(bytes)
+}
+
 #[test]
 fn two_bodies_have_472_bytes(rt: HostRuntime) -> Result<(), Fail> {
-    let text = snapshot(rt.alloc())?;
-    assert_eq!(rt; text.len(), 472);
-    let head = b"\x08\0\0\0HEAD\x08\x01\0\0\x08\0\0\0\0\x01\0\0I4SNAP01";
-    assert_eq!(rt; piece(&text, 0, 28), head.as_slice());
-    assert_eq!(rt; piece(&text, 312, 316), b"\xe7\x03\0\0".as_slice());
-    assert_eq!(rt;
-        piece(&text, 348, 356),
-        b"\xda\x8a\x1e\0\0\0\0\0".as_slice()
-    );
-    let set = read_snapshot(rt.alloc(), &text)?;
-    assert_eq!(rt; set.len(), 2);
-    assert_eq!(rt; set.get(1).motion.mom(), [-2001626, 0, 0]);
+    let alloc = rt.alloc();
+    let want = pair_bytes(alloc)?;
+    assert_eq!(rt; want.len(), 472);
+    assert_eq!(rt; snapshot(alloc)?.as_slice(), want.as_slice());
+    let mut seen = Vec::new(alloc);
+    for body in read_snapshot(alloc, &want)?.bodies() {
+        seen.push((body.id, body.motion.pos(), body.motion.mom()))?;
+    }
+    let want = [
+        (1, [0, 0, 0], [2001626, 0, 0]),
+        (2, [999, 0, 0], [-2001626, 0, 0]),
+    ];
+    assert!(rt; seen.as_slice() == want.as_slice());
+    Ok(())
+}
+
+fn of_kind(kind: u8, id: u64, mass: u32, pos: [u32; 3], mom: [i64; 3]) -> Row
+    requires low { 1 ≤ kind }
+    requires high { kind ≤ 5 }
+    ensures { HasKind result }
+{
+    Row {
+        id,
+        kind,
+        mass,
+        pos,
+        mom,
+    }
+}
+
+// Six bodies of all kinds, two of them of one.
+fn all_kinds(alloc: Global) -> Result<BodySet, Fail> {
+    let limit = 1 << 62;
+    let rows = vec![in alloc;
+        of_kind(5, 9, 10, [1, 2, 3], [-1, 2, -3]),
+        of_kind(2, 4, 20, [4, 5, u32::MAX], [limit, -limit, 0]),
+        of_kind(3, 7, 30, [6, 7, 8], [9, -10, 11]),
+        of_kind(1, 8, 40, [12, 13, 14], [15, 16, 17]),
+        of_kind(4, 2, 50, [18, 19, 20], [-21, 22, 23]),
+        of_kind(2, 3, 60, [24, 25, 26], [27, 28, -29]),
+    ]?;
+    Ok(BodySet::from_list(alloc, rows)?)
+}
+
+// Their snapshot, as another program writes it.
+fn all_kinds_bytes(alloc: Global) -> Result<Vec<u8>, Fail> {
+    let mut bytes = Vec::from_slice(alloc, b"\x08\0\0\0HEAD\x08\x01\0\0\x08\0\0\0\0\x01\0\0")?;
+    bytes.extend_from_slice(
+        b"I4SNAP01\0\0\0\0\x01\0\0\0\x02\0\0\0\x01\0\0\0\x01\0\0\0\x01\0\0\0M\0\0\0\0\0\0\0\x03\0\0\0",
+    )?;
+    bytes.extend_from_slice(&[0; 212])?;
+    bytes.extend_from_slice(b"\0\x01\0\0")?;
+    bytes.extend_from_slice(
+        b"\x08\0\0\0POS P\0\0\0\x08\0\0\0H\0\0\0\x0c\0\0\0\x0d\0\0\0\x0e\0\0\0\x18\0\0\0\x19\0\0\0",
+    )?;
+    bytes.extend_from_slice(
+        b"\x1a\0\0\0\x04\0\0\0\x05\0\0\0\xff\xff\xff\xff\x06\0\0\0\x07\0\0\0\x08\0\0\0\x12\0\0\0\x13\0\0\0\x14\0\0\0",
+    )?;
+    bytes.extend_from_slice(b"\x01\0\0\0\x02\0\0\0\x03\0\0\0H\0\0\0")?;
+    bytes.extend_from_slice(
+        b"\x08\0\0\0MOM \x98\0\0\0\x08\0\0\0\x90\0\0\0\x0f\0\0\0\0\0\0\0\x10\0\0\0\0\0\0\0\x11\0\0\0",
+    )?;
+    bytes.extend_from_slice(
+        b"\0\0\0\0\x1b\0\0\0\0\0\0\0\x1c\0\0\0\0\0\0\0\xe3\xff\xff\xff\xff\xff\xff\xff\0\0\0\0\0\0\0@\0\0\0\0",
+    )?;
+    bytes.extend_from_slice(
+        b"\0\0\0\xc0\0\0\0\0\0\0\0\0\x09\0\0\0\0\0\0\0\xf6\xff\xff\xff\xff\xff\xff\xff\x0b\0\0\0\0\0\0\0\xeb\xff\xff\xff",
+    )?;
+    bytes.extend_from_slice(
+        b"\xff\xff\xff\xff\x16\0\0\0\0\0\0\0\x17\0\0\0\0\0\0\0\xff\xff\xff\xff\xff\xff\xff\xff\x02\0\0\0\0\0\0\0\xfd\xff\xff\xff",
+    )?;
+    bytes.extend_from_slice(b"\xff\xff\xff\xff\x90\0\0\0")?;
+    bytes.extend_from_slice(
+        b"\x08\0\0\0ID  8\0\0\0\x08\0\0\00\0\0\0\x08\0\0\0\0\0\0\0\x03\0\0\0\0\0\0\0\x04\0\0\0",
+    )?;
+    bytes.extend_from_slice(
+        b"\0\0\0\0\x07\0\0\0\0\0\0\0\x02\0\0\0\0\0\0\0\x09\0\0\0\0\0\0\00\0\0\0",
+    )?;
+    bytes.extend_from_slice(
+        b"\x08\0\0\0MASS \0\0\0\x08\0\0\0\x18\0\0\0(\0\0\0<\0\0\0\x14\0\0\0\x1e\0\0\02\0\0\0",
+    )?;
+    bytes.extend_from_slice(b"\x0a\0\0\0\x18\0\0\0")?;
+    Ok(bytes)
+}
+
+#[test]
+fn all_kinds_are_written_and_read(rt: HostRuntime) -> Result<(), Fail> {
+    let alloc = rt.alloc();
+    let want = all_kinds_bytes(alloc)?;
+    let written = write_snapshot(alloc, &all_kinds(alloc)?, 77, 3)?;
+    assert_eq!(rt; written.as_slice(), want.as_slice());
+    let head = Head {
+        counts: [0, 1, 2, 1, 1, 1],
+        tick: 77,
+        number: 3,
+    };
+    assert_eq!(rt; read_head(alloc, &want)?, head);
+    let mut seen = Vec::new(alloc);
+    for body in read_snapshot(alloc, &want)?.bodies() {
+        seen.push((body.id, body.kind, body.mass))?;
+    }
+    let ids = [
+        (2, 4, 50),
+        (3, 2, 60),
+        (4, 2, 20),
+        (7, 3, 30),
+        (8, 1, 40),
+        (9, 5, 10),
+    ];
+    assert!(rt; seen.as_slice() == ids.as_slice());
+    let again = write_snapshot(alloc, &read_snapshot(alloc, &want)?, 77, 3)?;
+    assert_eq!(rt; again.as_slice(), want.as_slice());
     Ok(())
 }
 

@@ -6,7 +6,7 @@ use Rattle.fixed_point.specs.Vectors.{IsAtMost}
 use Rattle.nbody_model.specs.Steps.{first_out, fast}
 use Rattle.kick_drift.specs.declared.kicks.KickErr.{KickErr}
 use Rattle.kick_drift.specs.declared.kicks.KickErr.TheVariants.{MomRange}
-use Rattle.nbody_model.specs.Bodies.{BodyData, only, total}
+use Rattle.nbody_model.specs.Bodies.{BodyData, only, total, components}
 use Rattle.nbody_model.specs.Setups.{SetupData}
 use Rattle.nbody_model.specs.Tables.{Gravity, ExpansionData, Reaches}
 use Rattle.nbody_model.specs.Fields.{FieldData}

@@ -1,5 +1,5 @@
 use Rattle.std.proofs.Common.{All, subst}
-use Rattle.snap_file.specs.Stored.{IsStorable}
+use Rattle.particle_set.specs.Stored.{IsStorable}
 use Rattle.snap_file.proofs.RoundTrip.{reads_written}
 use Rattle.snap_file.proofs.round_trip.written_snapshots_are_read.Goals as goal
 
