@@ -222,7 +222,10 @@ fn have_its_mass(tree: &Tree, i: u32) -> bool
     let node = tree.node(i);
     let (first, number) = tree.children(i);
     let mut mass: u64 = 0;
-    for k in first..first + number {
+    for k in first..tree.len() {
+        if k - first >= number {
+            break;
+        }
         let child = tree.node(k);
         if child.cell.level as u32 != node.cell.level as u32 + 1 {
             return false;
