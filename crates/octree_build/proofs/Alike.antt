@@ -15,7 +15,7 @@ use Rattle.model_laws.proofs.Cancel.{BodyAt, body_at}
 use Rattle.model_laws.proofs.Leaves.{leaf_apart}
 use Rattle.model_laws.proofs.Pairs.{all_among}
 use Rattle.octree_build.specs.Trees.{opened, top, IsGrown, first_child}
-use Rattle.octree_build.proofs.Tests.{one_place-from}
+use Rattle.octree_build.proofs.LeafTests.{one_place-from}
 
 pub permuted_among : (A B : List BodyData) → IsPermutation A B → (b : BodyData) → Among b B → Among b A
 permuted_among A B p b h =

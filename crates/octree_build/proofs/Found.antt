@@ -20,7 +20,7 @@ use Rattle.octree_build.specs.Slots.{IsNode}
 use Rattle.octree_build.proofs.Grown.{are_beside}
 use Rattle.octree_build.proofs.Edges.{among-at}
 use Rattle.octree_build.proofs.Once.{FromOpened, Opened, from_opened}
-use Rattle.octree_build.proofs.Tests.{Stands, stands}
+use Rattle.octree_build.proofs.LeafTests.{Stands, stands}
 use Rattle.octree_build.proofs.Listed.{in_tree, listed_node}
 
 -- one place more where no cell is around

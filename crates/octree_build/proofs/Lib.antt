@@ -4,7 +4,7 @@ pub mod Once
 pub mod Edges
 pub mod Kids
 pub mod Opens
-pub mod Tests
+pub mod LeafTests
 pub mod Opened
 pub mod Roots
 pub mod Placed

@@ -10,7 +10,7 @@ use Rattle.nbody_model.specs.Nodes.{positions_of, is_node, is_leaf}
 use Rattle.model_laws.proofs.Leaves.{shallow}
 use Rattle.octree_build.specs.Trees.{key_at, low_of, high_of, opened}
 use Rattle.octree_build.specs.Slots.{AreKeyed, IsNode, SlotData, slot_of, slots_below, IsToOpen}
-use Rattle.octree_build.proofs.Tests.{some_there, within_all, leaf_test, least_is}
+use Rattle.octree_build.proofs.LeafTests.{some_there, within_all, leaf_test, least_is}
 
 pub whole_part : (n w : ℕ) → n / w * w ≤ n
 whole_part n w = div-mul-le_self n w

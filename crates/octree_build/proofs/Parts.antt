@@ -11,7 +11,7 @@ use Rattle.node_moments.specs.Sums.{RawData, raw_of}
 use Rattle.octree_build.specs.Sums.{IsRange}
 use Rattle.octree_build.proofs.Edges.{lies_in}
 use Rattle.octree_build.proofs.Runs.{members_range}
-use Rattle.octree_build.proofs.Tests.{some_there, within_all}
+use Rattle.octree_build.proofs.LeafTests.{some_there, within_all}
 use Rattle.octree_build.proofs.Opens.{drop_at}
 use Rattle.octree_build.proofs.Opened.{blank}
 

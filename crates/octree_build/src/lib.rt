@@ -12,3 +12,6 @@ pub use laws::{
     trees_have_nodes,
 };
 pub use tree::{Tree, build};
+
+#[cfg(test)]
+mod tests;
