@@ -135,8 +135,8 @@ TellsStep course depths tick known span ended = (plan : Plan) (σ : StateData) �
     StepEnds span.gravity span.passes span.old span.new (λ stop. base_step plan stop (is_known known) σ) tick (began course.setup.now.top_bin tick + 2 ^ course.setup.now.top_bin) ended
 
 -- as it was recorded
-abbrev pub LogsStep : Course → List BodyData → List BodyData → List ℕ → ℕ → Option FieldData → ForceSpan (Files → List (List ℕ) → ℕ → Option Call → World) → Recorded → Type 0
-LogsStep course B C depths tick known span r = (plan : Plan) (σ : StateData) (f : Files) (k : List (List ℕ)) (n : ℕ) (l : Option Call) → plan.rules ≡ rules span.gravity (option_copied course.expansion) → σ.bodies ≡ B → σ.depths ≡ depths → σ.tick ≡ tick →
+abbrev pub Records : Course → List BodyData → List BodyData → List ℕ → ℕ → Option FieldData → ForceSpan (Files → List (List ℕ) → ℕ → Option Call → World) → Recorded → Type 0
+Records course B C depths tick known span r = (plan : Plan) (σ : StateData) (f : Files) (k : List (List ℕ)) (n : ℕ) (l : Option Call) → plan.rules ≡ rules span.gravity (option_copied course.expansion) → σ.bodies ≡ B → σ.depths ≡ depths → σ.tick ≡ tick →
     IsRecorded plan course.own.now span.passes (is_known known) σ C r.log (span.old f k n l) (span.new f k n l) r.ended
 
 -- as it was made from a run's state on

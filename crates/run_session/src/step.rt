@@ -7,7 +7,7 @@ ghost use Rattle.param_file.specs.Settings.{setup_of};
 ghost use Rattle.restart_files.specs.Stored.{HasDepths, IsKept};
 ghost use Rattle.step_engine.specs.Told.{AreForcesAmong};
 ghost use Rattle.step_engine.specs.BaseSteps.{AreKnown, StandsFor, StepCause};
-ghost use Rattle.run_session.specs.Promises.{MakesStep, LogsStep, TellsStep};
+ghost use Rattle.run_session.specs.Promises.{MakesStep, Records, TellsStep};
 ghost use Rattle.run_session.specs.Spans.{step_span, taker_span};
 ghost use Rattle.run_session.specs.Steps.{CanStep, RestsWith, counted_by, made_of, state_with, stepped_by};
 
@@ -145,7 +145,7 @@ fn record_step<F: Forces, Q: Stopper>(
     requires known { IfSome known.old (AreForcesAmong (F.gravity forces.old) set.old) }
     requires begun { CanStep course.now.setup.now (option_copied course.now.expansion) set.old start.now.depth.now start.now.tick }
     requires fresh { is_empty start.now.depth.now ≡ false → known.old ≡ None }
-    ensures recorded { LogsStep course.now set.old set.new start.now.depth.now start.now.tick known.old (step_span F.Forces Q.Stopper forces.old stop.old forces.new stop.new) result }
+    ensures recorded { Records course.now set.old set.new start.now.depth.now start.now.tick known.old (step_span F.Forces Q.Stopper forces.old stop.old forces.new stop.new) result }
     ensures known { AreKnown result.ended (F.gravity forces.old) set.new known.new }
     ensures cause { StepCause result.ended 0 0 (Q.yes stop.old) (Q.yes stop.new) }
     ensures same_gravity { F.gravity forces.new ≡ F.gravity forces.old }
