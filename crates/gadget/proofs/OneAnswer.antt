@@ -17,7 +17,8 @@ use Rattle.snap_file.proofs.NoFault.{reads_one_way}
 use Rattle.run_session.specs.declared.ended.Ended.{Ended}
 use Rattle.run_session.specs.declared.ended.End.{End as RunEnd}
 use Rattle.run_session.specs.declared.ended.End.TheVariants as ends
-use Rattle.run_session.specs.RunEnds.{World, EndsBy, IsEnded, TellsState, plan_of}
+use Rattle.run_session.specs.RunEnds.{EndsBy, IsEnded, TellsState}
+use Rattle.run_session.specs.Worlds.{World}
 use Rattle.run_session.specs.Own.{own_files}
 use Rattle.gadget.specs.declared.status.Status.{Status}
 use Rattle.gadget.specs.declared.status.Status.TheVariants.{Done, MomRange, StepRange, Snapshot, Usage, NotBuilt}

@@ -13,8 +13,8 @@ use Rattle.nbody_model.specs.Tables.{Gravity}
 use Rattle.param_file.specs.Settings.{setup_of}
 use Rattle.force_field.specs.Lists.{quiet}
 use Rattle.run_session.specs.declared.ended.Ended.{Ended}
-use Rattle.run_session.specs.RunEnds.{World, RunEnds}
-use Rattle.run_session.specs.Spans.{world_by}
+use Rattle.run_session.specs.RunEnds.{RunEnds}
+use Rattle.run_session.specs.Worlds.{World, world_by}
 use Rattle.gadget.specs.declared.status.Status.{Status}
 use Rattle.gadget.specs.declared.status.Status.TheVariants.{Usage, Memory, ConsoleFault, NotBuilt}
 use Rattle.gadget.specs.declared.outcome.Outcome.{Outcome}

@@ -1,6 +1,6 @@
 -- How many answers words and files have.
 use Rattle.std.specs.Prelude.{◌≡◌, ℕ, List, true}
-use Rattle.run_session.specs.RunEnds.{World}
+use Rattle.run_session.specs.Worlds.{World}
 use Rattle.gadget.specs.declared.status.Status.{Status}
 use Rattle.gadget.specs.declared.status.Status.TheVariants.{Stopped, Memory, ReadFault, WriteFault, ConsoleFault}
 use Rattle.gadget.specs.declared.outcome.Outcome.{Outcome}

@@ -24,4 +24,3 @@ entry_of Positions b = position_text b
 entry_of Momenta b = momentum_text b
 entry_of Ids b = id_text b
 entry_of Masses b = mass_text b
-
