@@ -1,52 +1,42 @@
 use super::*;
 use fixed_point::Memory;
 use std::test::Fail;
-use store_io::{LastSchedule, ListSchedule, MemSink, MemStore, NeverStop, SeededSchedule};
+use store_io::{LastSchedule, MemSink, MemStore, NeverStop};
 
 mod cuts;
-mod faults;
 mod forces;
-mod four_steps;
-mod inputs;
 mod runs;
 mod stops;
 
-// The lines of a parameter file by which two bodies that are near each other make one base step.
-const STEP: &str = "ErrTolTheta 0
-GravityConstantInternal 1048576
+// The first lines of a parameter file of one base step.
+const PARAMETERS: &[u8] = b"InitCondFile ics.dat
+SnapshotFileBase snapshot
 LowBin 1
 TopBin 1
-VelocityShift 20
-ErrTolIntAccuracy 65536
-TimeMax 2";
+ErrTolTheta 0
+GravityConstantInternal 1048576
+";
 
-// What such a run prints where one pair acts.
-const STEP_DONE: &str = "done tick 2 steps 1 snapshots 1 kicks 2 interactions 2 momentum 0 0 0\n";
+// Its last lines, with which a base step of two bodies that are far apart is made.
+const STEP: &str = "VelocityShift 20\nErrTolIntAccuracy 65536\nTimeMax 2";
 
-// A body.
+// A body of kind 1.
 #[derive(Clone, Copy)]
 struct Placed {
     id: u64,
-    kind: u32,
     mass: u32,
     position: [u32; 3],
     momentum: [i64; 3],
 }
 
-// A body of mass 1024 and this kind on the x axis.
-fn of_kind(kind: u32, id: u64, x: u32, px: i64) -> Placed {
+// A body of mass 1024 on the x axis.
+fn at(id: u64, x: u32, px: i64) -> Placed {
     Placed {
         id,
-        kind,
         mass: 1024,
         position: [x, 0, 0],
         momentum: [px, 0, 0],
     }
-}
-
-// One of kind 1.
-fn at(id: u64, x: u32, px: i64) -> Placed {
-    of_kind(1, id, x, px)
 }
 
 fn text(alloc: Global, bytes: &[u8]) -> Result<Text, Memory> {
@@ -105,73 +95,28 @@ fn push_columns(alloc: Global, out: &mut Vec<u8>, bodies: &[Placed]) -> Result<(
     push_block(out, b"MASS", &mass)
 }
 
-// The bodies of each kind in turn, in their order.
-fn by_kind(alloc: Global, bodies: &[Placed]) -> Result<Vec<Placed>, Memory> {
-    let mut sorted = Vec::new(alloc);
-    for kind in 0..6 {
-        for body in bodies {
-            if body.kind == kind {
-                sorted.push(*body)?;
-            }
-        }
-    }
-    Ok(sorted)
-}
-
-fn count_of(bodies: &[Placed], kind: u32) -> u32 {
-    let mut count = 0u32;
-    for body in bodies {
-        if body.kind == kind {
-            count = count.saturating_add(1);
-        }
-    }
-    count
-}
-
-// The snapshot of some bodies at a tick, with its number, written out by hand.
-fn numbered_snapshot(
-    alloc: Global,
-    bodies: &[Placed],
-    tick: u64,
-    number: u32,
-) -> Result<Vec<u8>, Memory> {
+// The snapshot of some bodies at a tick, written out by hand.
+fn snapshot(alloc: Global, bodies: &[Placed], tick: u64) -> Result<Vec<u8>, Memory> {
+    let count = bodies.len() as u64 % 256;
     let mut head = Vec::from_slice(alloc, b"I4SNAP01")?;
-    for kind in 0..6 {
-        head.extend_from_slice(&count_of(bodies, kind).to_le_bytes())?;
-    }
+    head.extend_from_slice(&[0; 4])?;
+    head.extend_from_slice(&(count as u32).to_le_bytes())?;
+    head.extend_from_slice(&[0; 16])?;
     head.extend_from_slice(&tick.to_le_bytes())?;
-    head.extend_from_slice(&number.to_le_bytes())?;
-    head.extend_from_slice(&[0; 212])?;
+    head.extend_from_slice(&[0; 216])?;
     let mut out = Vec::new(alloc);
     push_block(&mut out, b"HEAD", &head)?;
-    push_columns(alloc, &mut out, &by_kind(alloc, bodies)?)?;
+    push_columns(alloc, &mut out, bodies)?;
     Ok(out)
 }
 
-// The one with number 0.
-fn snapshot(alloc: Global, bodies: &[Placed], tick: u64) -> Result<Vec<u8>, Memory> {
-    numbered_snapshot(alloc, bodies, tick, 0)
-}
-
-fn put(alloc: Global, store: &mut MemStore, name: &str, bytes: &[u8]) -> Result<(), Memory> {
-    store.put(&text(alloc, name.as_bytes())?, bytes)
-}
-
-// A parameter file that names its snapshot `ics.dat`, with these lines.
-fn parameters(alloc: Global, lines: &[&str]) -> Result<Vec<u8>, Memory> {
-    let mut out = Vec::from_slice(alloc, b"InitCondFile ics.dat\nSnapshotFileBase snapshot\n")?;
-    for line in lines {
-        out.extend_from_slice(line.as_bytes())?;
-        out.push(b'\n')?;
-    }
-    Ok(out)
-}
-
-// A store with such a parameter file and the snapshot of some bodies.
-fn store_of(alloc: Global, lines: &[&str], bodies: &[Placed]) -> Result<MemStore, Memory> {
+// A store with a parameter file, whose last lines are given, and the snapshot of some bodies.
+fn store_of(alloc: Global, last_lines: &str, bodies: &[Placed]) -> Result<MemStore, Memory> {
     let mut store = MemStore::new(alloc);
-    put(alloc, &mut store, "param.txt", &parameters(alloc, lines)?)?;
-    put(alloc, &mut store, "ics.dat", &snapshot(alloc, bodies, 0)?)?;
+    let params = joined(alloc, PARAMETERS, last_lines.as_bytes())?;
+    store.put(&text(alloc, b"param.txt")?, &params)?;
+    let ics = snapshot(alloc, bodies, 0)?;
+    store.put(&text(alloc, b"ics.dat")?, &ics)?;
     Ok(store)
 }
 
@@ -183,11 +128,10 @@ struct Said {
 }
 
 // Says the words over a store.
-fn say<K: Schedule, Q: Stopper>(
+fn say<Q: Stopper>(
     alloc: Global,
     words: &[&str],
     store: &mut MemStore,
-    order: &mut K,
     stop: &mut Q,
 ) -> Result<Said, Memory> {
     let mut texts = Vec::new(alloc);
@@ -195,7 +139,7 @@ fn say<K: Schedule, Q: Stopper>(
         texts.push(text(alloc, word.as_bytes())?)?;
     }
     let mut sink = MemSink::new(alloc);
-    let status = gadget(alloc, &texts, store, order, stop, &mut sink);
+    let status = gadget(alloc, &texts, store, &mut LastSchedule, stop, &mut sink);
     let line = Vec::from_slice(alloc, sink.bytes())?;
     Ok(Said {
         code: status.code(),
@@ -211,7 +155,7 @@ fn says(
     code: u8,
     line: &str,
 ) -> Result<bool, Memory> {
-    let said = say(alloc, words, store, &mut LastSchedule, &mut NeverStop)?;
+    let said = say(alloc, words, store, &mut NeverStop)?;
     Ok(said.code == code && said.line.as_slice() == line.as_bytes())
 }
 
@@ -221,46 +165,9 @@ fn holds(alloc: Global, store: &MemStore, name: &str, want: &[u8]) -> Result<boo
     Ok(store.get(&name).is_some_and(|bytes| bytes == want))
 }
 
-// All names of files in these tests.
-const NAMES: [&str; 23] = [
-    "param.txt",
-    "outputs.txt",
-    "table.dat",
-    "ics.dat",
-    "kicks.txt",
-    "kicks.txt_from_0",
-    "kicks.txt_from_0_at_2",
-    "kicks.txt_from_1",
-    "kicks.txt_from_2",
-    "kicks.txt_from_3",
-    "ranktrace.txt",
-    "bins.dat",
-    "snapshot",
-    "snapshot_000",
-    "snapshot_001",
-    "snapshot_002",
-    "snapshot_003",
-    "snapshot_004",
-    "restart",
-    "restart_000",
-    "restart_001",
-    "restart_002",
-    "restart_003",
-];
-
-// Whether the same files stand in two stores, each with the same bytes.
-fn same_files(alloc: Global, store: &MemStore, want: &MemStore) -> Result<bool, Memory> {
-    for name in NAMES {
-        let name = text(alloc, name.as_bytes())?;
-        let is_same = match want.get(&name) {
-            Some(bytes) => store.get(&name).is_some_and(|found| found == bytes),
-            None => store.get(&name).is_none(),
-        };
-        if !is_same {
-            return Ok(false);
-        }
-    }
-    Ok(true)
+fn stands(alloc: Global, store: &MemStore, name: &str) -> Result<bool, Memory> {
+    let name = text(alloc, name.as_bytes())?;
+    Ok(store.get(&name).is_some())
 }
 
 const RUN: [&str; 3] = ["run", "param.txt", "1"];
@@ -268,19 +175,29 @@ const RUN: [&str; 3] = ["run", "param.txt", "1"];
 const PAIR: [Placed; 2] = [
     Placed {
         id: 1,
-        kind: 1,
         mass: 1024,
         position: [0; 3],
         momentum: [0; 3],
     },
     Placed {
         id: 2,
-        kind: 1,
         mass: 1024,
         position: [1000, 0, 0],
         momentum: [0; 3],
     },
 ];
+
+// What a run prints, and its status.
+fn prints(
+    alloc: Global,
+    last_lines: &str,
+    bodies: &[Placed],
+    code: u8,
+    want: &str,
+) -> Result<bool, Memory> {
+    let mut store = store_of(alloc, last_lines, bodies)?;
+    says(alloc, &RUN, &mut store, code, want)
+}
 
 // A table of two steps to half the box, of zeros but for one number of one entry.
 fn table(alloc: Global, entry: usize, number: u32) -> Result<Vec<u8>, Memory> {
@@ -293,6 +210,36 @@ fn table(alloc: Global, entry: usize, number: u32) -> Result<Vec<u8>, Memory> {
         bytes.extend_from_slice(&[0; 8])?;
     }
     Ok(bytes)
+}
+
+// What a run with a table of this name prints, and its status, where a file `table.dat` has these bytes.
+fn prints_with_table(
+    alloc: Global,
+    last_lines: &str,
+    bytes: &[u8],
+    code: u8,
+    want: &str,
+) -> Result<bool, Memory> {
+    let mut store = store_of(alloc, last_lines, &PAIR)?;
+    store.put(&text(alloc, b"table.dat")?, bytes)?;
+    says(alloc, &RUN, &mut store, code, want)
+}
+
+#[test]
+fn tables_are_read(rt: HostRuntime) -> Result<(), Fail> {
+    let alloc = rt.alloc();
+    let named = "VelocityShift 20\nErrTolIntAccuracy 65536\nTimeMax 2\nEwaldTableFile table.dat\n";
+    let absent = "VelocityShift 20\nErrTolIntAccuracy 65536\nTimeMax 2\nEwaldTableFile table\n";
+    let done = "done tick 2 steps 1 snapshots 1 kicks 2 interactions 2 momentum 0 0 0\n";
+    let right = table(alloc, 1, 1 << 30)?;
+    assert!(rt; prints_with_table(alloc, named, &right, 0, done)?);
+    assert!(rt; prints_with_table(alloc, absent, &right, 7, "absent table\n")?);
+    let cut = right.get(..339).ok_or("short")?;
+    assert!(rt; prints_with_table(alloc, named, cut, 12, "table length 340 339\n")?);
+    let plane = table(alloc, 0, 1)?;
+    assert!(rt; prints_with_table(alloc, named, &plane, 12, "table plane 0\n")?);
+    assert!(rt; prints_with_table(alloc, named, b"I4EWALD2", 12, "table tag\n")?);
+    Ok(())
 }
 
 // A table of factors: entries so many ticks (as a power of two) apart, each with these two sums.
@@ -308,45 +255,153 @@ fn factors(alloc: Global, spacing: u32, entries: &[(u64, u64)]) -> Result<Vec<u8
     Ok(bytes)
 }
 
-// Numbers of 64 bits, one behind the other.
-fn push_numbers(out: &mut Vec<u8>, numbers: &[u64]) -> Result<(), Memory> {
-    for number in numbers {
-        out.extend_from_slice(&number.to_le_bytes())?;
+#[test]
+fn faulty_tables_of_factors_are_answered(rt: HostRuntime) -> Result<(), Fail> {
+    let alloc = rt.alloc();
+    let named =
+        "VelocityShift 20\nErrTolIntAccuracy 65536\nTimeMax 2\nExpansionTableFile table.dat\n";
+    let longer =
+        "VelocityShift 20\nErrTolIntAccuracy 65536\nTimeMax 3\nExpansionTableFile table.dat\n";
+    let right = factors(alloc, 1, &[(0, 0), (1, 2)])?;
+    let cut = right.get(..47).ok_or("short")?;
+    assert!(rt; prints_with_table(alloc, named, cut, 16, "expansion length 48 47\n")?);
+    let late = factors(alloc, 1, &[(1, 0), (1, 2)])?;
+    assert!(rt; prints_with_table(alloc, named, &late, 16, "expansion entry 0\n")?);
+    assert!(rt; prints_with_table(alloc, longer, &right, 16, "expansion short 4 2\n")?);
+    Ok(())
+}
+
+#[test]
+fn parameters_are_answered(rt: HostRuntime) -> Result<(), Fail> {
+    let alloc = rt.alloc();
+    let cases = [
+        (
+            "VelocityShift 20\nErrTolIntAccuracy 65536\nTimeMax 2\nRankTrace 1",
+            9,
+            "not built\n",
+        ),
+        (
+            "VelocityShift 20\nGravity 5\nTimeMax 2",
+            10,
+            "parameter line 8 unknown\n",
+        ),
+        (
+            "VelocityShift 20\nErrTolIntAccuracy 65536",
+            10,
+            "parameter line 0 missing TimeMax\n",
+        ),
+        ("TimeMax 2\nTimeMax 4", 10, "parameter line 8 repeated\n"),
+        ("TimeMax 1.5", 10, "parameter line 7 not a number\n"),
+        (
+            "DeliverySeed 18446744073709551616",
+            10,
+            "parameter line 7 out of range\n",
+        ),
+    ];
+    for (last_lines, code, want) in cases {
+        let mut store = store_of(alloc, last_lines, &PAIR)?;
+        assert!(rt; says(alloc, &RUN, &mut store, code, want)?, "at {want}");
+        assert!(rt;
+            says(alloc, &["check", "param.txt"], &mut store, code, want)?,
+            "at {want}"
+        );
+        assert!(rt; !stands(alloc, &store, "kicks.txt")?);
     }
     Ok(())
 }
 
-// A body of a restart file, with its depth where there is one.
-fn push_kept(out: &mut Vec<u8>, body: &Placed, depth: Option<u32>) -> Result<(), Memory> {
-    out.extend_from_slice(&body.id.to_le_bytes())?;
-    out.extend_from_slice(&body.kind.to_le_bytes())?;
-    out.extend_from_slice(&body.mass.to_le_bytes())?;
-    push_position(out, body.position)?;
-    push_momentum(out, body.momentum)?;
-    if let Some(depth) = depth {
-        out.extend_from_slice(&depth.to_le_bytes())?;
+#[test]
+fn clashing_names_are_refused(rt: HostRuntime) -> Result<(), Fail> {
+    let alloc = rt.alloc();
+    let mut store = MemStore::new(alloc);
+    let params =
+        b"InitCondFile ics.dat\nSnapshotFileBase snapshot\nKickFile snapshot_7\nTimeMax 2\nLowBin 1\nTopBin 1\nErrTolTheta 0\nErrTolIntAccuracy 1\nGravityConstantInternal 0\nVelocityShift 0\n";
+    store.put(&text(alloc, b"param.txt")?, params)?;
+    assert!(rt; says(alloc, &RUN, &mut store, 10, "parameter line 3 clash\n")?);
+    Ok(())
+}
+
+#[test]
+fn words_and_files_are_answered(rt: HostRuntime) -> Result<(), Fail> {
+    let alloc = rt.alloc();
+    let usage =
+        "usage: gadget run PARAM RANKS | resume PARAM RESTART RANKS | check PARAM | show SNAP | make COUNT SEED NAME\n";
+    let cases: [(&[&str], u8, &str); 14] = [
+        (&[], 2, usage),
+        (&["run", "param.txt", "0"], 2, usage),
+        (&["run", "param.txt", "257"], 2, usage),
+        (&["make", "1", "x", "c"], 2, usage),
+        (&["run", "param.txt", "2"], 9, "not built\n"),
+        (&["show", "nothing"], 7, "absent nothing\n"),
+        (&["resume", "param.txt", "restart_000", "0"], 2, usage),
+        (&["resume", "param.txt", "", "1"], 2, usage),
+        (&["resume", "param.txt", "restart_000"], 2, usage),
+        (
+            &["resume", "param.txt", "restart_000", "2"],
+            9,
+            "not built\n",
+        ),
+        (
+            &["resume", "nothing", "restart_000", "1"],
+            7,
+            "absent nothing\n",
+        ),
+        (&["make", "1", "2", "c"], 9, "not built\n"),
+        (&["run", "nothing", "1"], 7, "absent nothing\n"),
+        (&["run", "long", "1"], 8, "too long long 65537\n"),
+    ];
+    for (words, code, want) in cases {
+        let mut store = MemStore::new(alloc);
+        let long = vec![in alloc; b'\n'; 65537]?;
+        store.put(&text(alloc, b"long")?, &long)?;
+        assert!(rt; says(alloc, words, &mut store, code, want)?, "at {want}");
     }
     Ok(())
 }
 
-// A restart file, written out by hand: its counters, the settings, and the bodies, each with the depth that is given.
-fn restart(
-    alloc: Global,
-    counters: &[u64; 7],
-    settings: &[u64; 12],
-    bodies: &[Placed],
-    depth: Option<u32>,
-) -> Result<Vec<u8>, Memory> {
-    let version = if depth.is_some() { 2u32 } else { 1 };
-    let count = (bodies.len() % 65_536) as u32;
-    let mut out = Vec::from_slice(alloc, b"I4RESTRT")?;
-    out.extend_from_slice(&version.to_le_bytes())?;
-    out.extend_from_slice(&count.to_le_bytes())?;
-    push_numbers(&mut out, counters)?;
-    push_numbers(&mut out, settings)?;
-    for body in bodies {
-        push_kept(&mut out, body, depth)?;
+#[test]
+fn snapshots_are_answered(rt: HostRuntime) -> Result<(), Fail> {
+    let alloc = rt.alloc();
+    let whole = snapshot(alloc, &PAIR, 2)?;
+    let lines =
+        "tick 2 number 0 bodies 2 mass 2048 momentum 0 0 0\ntype 1 bodies 2\ntype 2 bodies 0\ntype 3 bodies 0\ntype 4 bodies 0\ntype 5 bodies 0\n";
+    let mut store = store_of(alloc, STEP, &PAIR)?;
+    store.put(&text(alloc, b"snap")?, &whole)?;
+    assert!(rt; says(alloc, &["show", "snap"], &mut store, 0, lines)?);
+    assert!(rt;
+        says(
+            alloc,
+            &["check", "param.txt"],
+            &mut store,
+            0,
+            "ok bodies 2 mass 2048 momentum 0 0 0\n"
+        )?
+    );
+    let cases: [(usize, &[u8], &str); 3] = [
+        (470, b"", "snapshot truncated at 456\n"),
+        (468, &[9, 0, 0, 0], "snapshot frames differ at 468 8 9\n"),
+        (464, &[0, 0, 0, 0, 8, 0, 0, 0], "snapshot zero mass id 2\n"),
+    ];
+    for (kept, tail, want) in cases {
+        let bytes = joined(alloc, whole.get(..kept).ok_or("short")?, tail)?;
+        store.put(&text(alloc, b"snap")?, &bytes)?;
+        assert!(rt;
+            says(alloc, &["show", "snap"], &mut store, 13, want)?,
+            "at {want}"
+        );
     }
-    out.extend_from_slice(b"I4RESEND")?;
-    Ok(out)
+    let mut untagged = Vec::from_slice(alloc, whole.get(..20).ok_or("short")?)?;
+    untagged.extend_from_slice(&[0; 8])?;
+    untagged.extend_from_slice(whole.get(28..).ok_or("short")?)?;
+    store.put(&text(alloc, b"snap")?, &untagged)?;
+    assert!(rt;
+        says(
+            alloc,
+            &["show", "snap"],
+            &mut store,
+            13,
+            "snapshot head tag\n"
+        )?
+    );
+    Ok(())
 }

@@ -1,6 +1,5 @@
 // Files that are cut at every length.
-use super::four_steps::{HARD, LAST, left};
-use super::runs::TWO_BINS;
+use super::runs::{FOUR_DONE, LIST, four_steps, two_bins};
 use super::stops::{RESUME, rest_state};
 use super::*;
 
@@ -18,9 +17,6 @@ fn each_cut_is_answered(
     let name = text(alloc, name.as_bytes())?;
     let whole = Vec::from_slice(alloc, store.get(&name).ok_or("no file")?)?;
     let full = whole.len();
-    if full <= least {
-        return Ok(false);
-    }
     for len in 0..full {
         store.put(&name, whole.get(..len).ok_or("short")?)?;
         let want = if len < 8 {
@@ -40,7 +36,8 @@ fn each_cut_is_answered(
 #[test]
 fn a_cut_restart_file_is_answered(rt: HostRuntime) -> Result<(), Fail> {
     let alloc = rt.alloc();
-    let mut store = left(alloc, &HARD, 8, 4, LAST)?;
+    let mut store = four_steps(alloc, LIST)?;
+    assert!(rt; says(alloc, &RUN, &mut store, 0, FOUR_DONE)?);
     assert!(rt;
         each_cut_is_answered(
             alloc,
@@ -52,7 +49,7 @@ fn a_cut_restart_file_is_answered(rt: HostRuntime) -> Result<(), Fail> {
             176
         )?
     );
-    let mut store = store_of(alloc, &[TWO_BINS], &PAIR)?;
+    let mut store = two_bins(alloc)?;
     store.put(&text(alloc, b"restart_000")?, &rest_state(alloc)?)?;
     assert!(rt;
         each_cut_is_answered(
@@ -71,25 +68,17 @@ fn a_cut_restart_file_is_answered(rt: HostRuntime) -> Result<(), Fail> {
 #[test]
 fn a_cut_table_is_answered(rt: HostRuntime) -> Result<(), Fail> {
     let alloc = rt.alloc();
-    let right = table(alloc, 1, 1 << 30)?;
-    let steps = factors(alloc, 1, &[(0, 0), (1, 2)])?;
-    let cases = [
-        ("EwaldTableFile table.dat", right.as_slice(), "table", 12),
-        (
-            "ExpansionTableFile table.dat",
-            steps.as_slice(),
-            "expansion",
-            16,
-        ),
-    ];
-    for (line, bytes, kind, code) in cases {
-        let mut store = store_of(alloc, &[STEP, line], &PAIR)?;
-        put(alloc, &mut store, "table.dat", bytes)?;
-        assert!(rt;
-            each_cut_is_answered(alloc, &mut store, &RUN, "table.dat", kind, code, 16)?,
-            "at {kind}"
-        );
-    }
+    let named = "VelocityShift 20\nErrTolIntAccuracy 65536\nTimeMax 2\nEwaldTableFile table\n";
+    let mut store = store_of(alloc, named, &PAIR)?;
+    store.put(&text(alloc, b"table")?, &table(alloc, 1, 1 << 30)?)?;
+    assert!(rt; each_cut_is_answered(alloc, &mut store, &RUN, "table", "table", 12, 16)?);
+    let named = "VelocityShift 20\nErrTolIntAccuracy 65536\nTimeMax 2\nExpansionTableFile table\n";
+    let mut store = store_of(alloc, named, &PAIR)?;
+    store.put(
+        &text(alloc, b"table")?,
+        &factors(alloc, 1, &[(0, 0), (1, 2)])?,
+    )?;
+    assert!(rt; each_cut_is_answered(alloc, &mut store, &RUN, "table", "expansion", 16, 16)?);
     Ok(())
 }
 
@@ -124,15 +113,14 @@ fn cut_snapshot_line(alloc: Global, len: usize) -> Result<String, Memory> {
 #[test]
 fn a_cut_snapshot_is_answered(rt: HostRuntime) -> Result<(), Fail> {
     let alloc = rt.alloc();
-    let mut store = store_of(alloc, &[STEP], &PAIR)?;
+    let mut store = store_of(alloc, STEP, &PAIR)?;
     let whole = snapshot(alloc, &PAIR, 0)?;
     assert_eq!(rt; whole.len(), 472);
-    let kicks = text(alloc, b"kicks.txt")?;
     for len in 0..whole.len() {
         store.put(&text(alloc, b"ics.dat")?, whole.get(..len).ok_or("short")?)?;
         let want = cut_snapshot_line(alloc, len)?;
         assert!(rt; says(alloc, &RUN, &mut store, 13, &want)?, "at {len}");
-        assert!(rt; store.get(&kicks).is_none());
+        assert!(rt; !stands(alloc, &store, "kicks.txt")?);
     }
     Ok(())
 }

@@ -1,32 +1,49 @@
-// Runs that are stopped and resumed.
-use super::four_steps::{
-    FOUR_DONE, HARD, Kept, LAST, LIST, four_steps, left, put_kicks, with_values,
-};
-use super::runs::{TWO_BINS, TWO_DONE, two_bins_end};
+// Runs that are stopped, resumed, or broken off by a fault.
+use super::runs::{FOUR_DONE, LIST, TWO_DONE, four_steps, two_bins, two_bins_end};
 use super::*;
 use store_io::StopAfter;
 
 /// Goes on from the first restart file.
 pub const RESUME: [&str; 4] = ["resume", "param.txt", "restart_000", "1"];
 
-/// The restart file of the run in two bins, stopped in the middle of its base step.
+// Numbers of 64 bits, one behind the other.
+fn push_numbers(out: &mut Vec<u8>, numbers: &[u64]) -> Result<(), Memory> {
+    for number in numbers {
+        out.extend_from_slice(&number.to_le_bytes())?;
+    }
+    Ok(())
+}
+
+// A body of kind 1, and its depth.
+fn push_deep(out: &mut Vec<u8>, body: Placed, depth: u32) -> Result<(), Memory> {
+    out.extend_from_slice(&body.id.to_le_bytes())?;
+    out.extend_from_slice(&1u32.to_le_bytes())?;
+    out.extend_from_slice(&body.mass.to_le_bytes())?;
+    push_position(out, body.position)?;
+    push_momentum(out, body.momentum)?;
+    out.extend_from_slice(&depth.to_le_bytes())?;
+    Ok(())
+}
+
+/// The restart file of the run in two bins, stopped in the middle of its base step; written out by hand.
 pub fn rest_state(alloc: Global) -> Result<Vec<u8>, Memory> {
-    let settings = [4, 1, 2, 0, 65_536, 1_048_576, 4, 256, 256, 256, 256, 256];
-    let bodies = [at(1, 122, 2_638_708), at(2, 877, -2_638_708)];
-    restart(alloc, &[0, 2, 0, 1, 3, 4, 0], &settings, &bodies, Some(1))
+    let mut out = Vec::from_slice(alloc, b"I4RESTRT")?;
+    out.extend_from_slice(&2u32.to_le_bytes())?;
+    out.extend_from_slice(&2u32.to_le_bytes())?;
+    push_numbers(&mut out, &[0, 2, 0, 1, 3, 4, 0])?;
+    push_numbers(&mut out, &[4, 1, 2, 0, 65_536, 1_048_576, 4])?;
+    push_numbers(&mut out, &[256; 5])?;
+    push_deep(&mut out, at(1, 122, 2_638_708), 1)?;
+    push_deep(&mut out, at(2, 877, -2_638_708), 1)?;
+    out.extend_from_slice(b"I4RESEND")?;
+    Ok(out)
 }
 
 #[test]
 fn a_run_is_stopped_inside_a_base_step_and_resumed(rt: HostRuntime) -> Result<(), Fail> {
     let alloc = rt.alloc();
-    let mut store = store_of(alloc, &[TWO_BINS], &PAIR)?;
-    let said = say(
-        alloc,
-        &RUN,
-        &mut store,
-        &mut LastSchedule,
-        &mut StopAfter::new(1),
-    )?;
+    let mut store = two_bins(alloc)?;
+    let said = say(alloc, &RUN, &mut store, &mut StopAfter::new(1))?;
     assert_eq!(rt; said.code, 1);
     assert!(rt; said.line.as_slice() == b"stopped steps 0 tick 2\n".as_slice());
     let rest = rest_state(alloc)?;
@@ -61,133 +78,163 @@ fn faulty_restart_files_are_answered(rt: HostRuntime) -> Result<(), Fail> {
         let mut bytes = Vec::from_slice(alloc, rest.get(..place).ok_or("short")?)?;
         bytes.push(byte)?;
         bytes.extend_from_slice(rest.get(place + 1..).ok_or("short")?)?;
-        let mut store = store_of(alloc, &[TWO_BINS], &PAIR)?;
-        let mut before = store_of(alloc, &[TWO_BINS], &PAIR)?;
-        let kept = bytes.get(..len).ok_or("short")?;
-        put(alloc, &mut store, "restart_000", kept)?;
-        put(alloc, &mut before, "restart_000", kept)?;
+        let mut store = two_bins(alloc)?;
+        store.put(
+            &text(alloc, b"restart_000")?,
+            bytes.get(..len).ok_or("short")?,
+        )?;
         let code = if place == 96 { 15 } else { 14 };
         assert!(rt; says(alloc, &RESUME, &mut store, code, want)?, "at {want}");
-        assert!(rt; same_files(alloc, &store, &before)?, "at {want}");
+        assert!(rt; !stands(alloc, &store, "kicks.txt_from_0_at_2")?);
     }
     Ok(())
 }
-
-// A stop of four base steps: at which question, what is printed, the kicks and the snapshots that were made, and the
-// restart files; then the file from which it goes on, its kick file, and all restart files.
-#[derive(Clone, Copy)]
-struct Stop<'a> {
-    question: u64,
-    line: &'a str,
-    kicks: usize,
-    below: u32,
-    kept: &'a [Kept<'a>],
-    from: &'a str,
-    kick_file: &'a str,
-    later: &'a [Kept<'a>],
-}
-
-const STOPS: [Stop; 3] = [
-    Stop {
-        question: 1,
-        line: "stopped steps 1\n",
-        kicks: 2,
-        below: 2,
-        kept: &[("restart_000", 1, 1)],
-        from: "restart_000",
-        kick_file: "kicks.txt_from_1",
-        later: &[("restart_000", 1, 1), ("restart_001", 2, 2)],
-    },
-    Stop {
-        question: 2,
-        line: "stopped steps 2\n",
-        kicks: 4,
-        below: 3,
-        kept: LAST,
-        from: "restart_000",
-        kick_file: "kicks.txt_from_2",
-        later: LAST,
-    },
-    Stop {
-        question: 3,
-        line: "stopped steps 3\n",
-        kicks: 6,
-        below: 3,
-        kept: &[("restart_000", 2, 1), ("restart_001", 3, 2)],
-        from: "restart_001",
-        kick_file: "kicks.txt_from_3",
-        later: &[("restart_000", 2, 1), ("restart_001", 3, 2)],
-    },
-];
 
 #[test]
 fn four_base_steps_are_resumed_from_each_stop(rt: HostRuntime) -> Result<(), Fail> {
     let alloc = rt.alloc();
-    for stop in &STOPS {
-        let mut store = four_steps(alloc, &HARD, LIST)?;
-        let mut asked = StopAfter::new(stop.question);
-        let said = say(alloc, &RUN, &mut store, &mut LastSchedule, &mut asked)?;
-        assert_eq!(rt; said.code, 1, "at {}", stop.line);
-        assert!(rt;
-            said.line.as_slice() == stop.line.as_bytes(),
-            "at {}",
-            stop.line
-        );
-        let want = left(alloc, &HARD, stop.kicks, stop.below, stop.kept)?;
-        assert!(rt; same_files(alloc, &store, &want)?, "at {}", stop.line);
-        let words = ["resume", "param.txt", stop.from, "1"];
-        assert!(rt;
-            says(alloc, &words, &mut store, 0, FOUR_DONE)?,
-            "at {}",
-            stop.line
-        );
-        let mut want = left(alloc, &HARD, stop.kicks, 4, stop.later)?;
-        put_kicks(alloc, &mut want, stop.kick_file, stop.kicks, 8)?;
-        assert!(rt; same_files(alloc, &store, &want)?, "at {}", stop.line);
+    let mut whole = four_steps(alloc, LIST)?;
+    assert!(rt; says(alloc, &RUN, &mut whole, 0, FOUR_DONE)?);
+    let last = text(alloc, b"snapshot_003")?;
+    let end = whole.get(&last).ok_or("no snapshot")?;
+    let cases = [
+        (1, "stopped steps 1\n", "restart_000"),
+        (2, "stopped steps 2\n", "restart_000"),
+        (3, "stopped steps 3\n", "restart_001"),
+    ];
+    for (stop, want, restart) in cases {
+        let mut store = four_steps(alloc, LIST)?;
+        let said = say(alloc, &RUN, &mut store, &mut StopAfter::new(stop))?;
+        assert_eq!(rt; said.code, 1, "at {want}");
+        assert!(rt; said.line.as_slice() == want.as_bytes(), "at {want}");
+        assert!(rt; !stands(alloc, &store, "snapshot_003")?, "at {want}");
+        let words = ["resume", "param.txt", restart, "1"];
+        assert!(rt; says(alloc, &words, &mut store, 0, FOUR_DONE)?, "at {want}");
+        assert!(rt; holds(alloc, &store, "snapshot_003", end)?, "at {want}");
     }
-    let mut store = four_steps(alloc, &HARD, LIST)?;
-    let mut asked = StopAfter::new(4);
-    let said = say(alloc, &RUN, &mut store, &mut LastSchedule, &mut asked)?;
-    assert_eq!(rt; said.code, 0);
-    assert!(rt; said.line.as_slice() == FOUR_DONE.as_bytes());
-    let want = left(alloc, &HARD, 8, 4, LAST)?;
-    assert!(rt; same_files(alloc, &store, &want)?);
     Ok(())
 }
 
 #[test]
-fn a_whole_run_is_resumed(rt: HostRuntime) -> Result<(), Fail> {
+fn a_restart_file_of_a_whole_run_is_resumed(rt: HostRuntime) -> Result<(), Fail> {
     let alloc = rt.alloc();
-    let mut store = four_steps(alloc, &HARD, LIST)?;
+    let mut store = four_steps(alloc, LIST)?;
     assert!(rt; says(alloc, &RUN, &mut store, 0, FOUR_DONE)?);
-    put(alloc, &mut store, "snapshot_003", b"another")?;
     assert!(rt; says(alloc, &RESUME, &mut store, 0, FOUR_DONE)?);
-    let mut want = left(alloc, &HARD, 8, 4, LAST)?;
-    put_kicks(alloc, &mut want, "kicks.txt_from_2", 4, 8)?;
-    assert!(rt; same_files(alloc, &store, &want)?);
+    let kicks =
+        b"2048 10 2 0 1 0 0 0 0\n3072 10 2 0 1 0 0 0 0\n3072 10 2 0 1 0 0 0 0\n4096 10 2 0 1 0 0 0 0\n";
+    assert!(rt; holds(alloc, &store, "kicks.txt_from_2", kicks)?);
     let name = text(alloc, b"restart_000")?;
-    let kept = Vec::from_slice(alloc, want.get(&name).ok_or("no restart file")?)?;
-    let cut = kept.get(..279).ok_or("short")?;
-    let cases = [
-        (
-            "181",
-            kept.as_slice(),
-            "restart_000",
-            15,
-            "differs ErrTolTheta\n",
-        ),
-        ("180", cut, "restart_000", 14, "restart length 280 279\n"),
-        ("180", cut, "snapshot_000", 14, "restart tag\n"),
+    let kept = Vec::from_slice(alloc, store.get(&name).ok_or("no restart")?)?;
+    store.put(&name, kept.get(..279).ok_or("short")?)?;
+    assert!(rt; says(alloc, &RESUME, &mut store, 14, "restart length 280 279\n")?);
+    Ok(())
+}
+
+// Whether each file of a store that a run over it may have written is a first part of the one of a whole run.
+fn are_parts(alloc: Global, store: &MemStore, whole: &MemStore) -> Result<bool, Memory> {
+    let names = [
+        "kicks.txt",
+        "snapshot_000",
+        "snapshot_001",
+        "snapshot_002",
+        "restart_000",
+        "snapshot_003",
     ];
-    for (angle, bytes, from, code, line) in cases {
-        let params = with_values(alloc, &[("ErrTolTheta", angle)])?;
-        put(alloc, &mut store, "param.txt", &params)?;
-        put(alloc, &mut want, "param.txt", &params)?;
-        put(alloc, &mut store, "restart_000", bytes)?;
-        put(alloc, &mut want, "restart_000", bytes)?;
-        let words = ["resume", "param.txt", from, "1"];
-        assert!(rt; says(alloc, &words, &mut store, code, line)?, "at {line}");
-        assert!(rt; same_files(alloc, &store, &want)?, "at {line}");
+    for name in names {
+        let name = text(alloc, name.as_bytes())?;
+        let Some(bytes) = store.get(&name) else {
+            continue;
+        };
+        if !whole.get(&name).is_some_and(|all| all.starts_with(bytes)) {
+            return Ok(false);
+        }
     }
+    Ok(true)
+}
+
+#[test]
+fn each_failing_call_is_answered(rt: HostRuntime) -> Result<(), Fail> {
+    let alloc = rt.alloc();
+    let mut whole = four_steps(alloc, LIST)?;
+    assert!(rt; says(alloc, &RUN, &mut whole, 0, FOUR_DONE)?);
+    let reads = [
+        "param.txt",
+        "param.txt",
+        "outputs.txt",
+        "outputs.txt",
+        "ics.dat",
+        "ics.dat",
+    ];
+    let mut done = false;
+    for call in 0..100 {
+        let mut store = four_steps(alloc, LIST)?;
+        store.fail(call, 100)?;
+        let said = say(alloc, &RUN, &mut store, &mut NeverStop)?;
+        if said.code == 0 {
+            done = true;
+            break;
+        }
+        if let Some(name) = reads.get(call as usize) {
+            let mut want = joined(alloc, b"read fault ", name.as_bytes())?;
+            want.push(b'\n')?;
+            assert_eq!(rt; said.code, 4);
+            assert!(rt; said.line == want);
+            assert!(rt; !stands(alloc, &store, "kicks.txt")?);
+        } else {
+            assert_eq!(rt; said.code, 5);
+            assert!(rt; said.line.starts_with(b"write fault "));
+        }
+        assert!(rt; are_parts(alloc, &store, &whole)?);
+    }
+    assert!(rt; done);
+    Ok(())
+}
+
+#[test]
+fn a_failing_append_leaves_what_was_finished(rt: HostRuntime) -> Result<(), Fail> {
+    let alloc = rt.alloc();
+    let mut whole = four_steps(alloc, LIST)?;
+    assert!(rt; says(alloc, &RUN, &mut whole, 0, FOUR_DONE)?);
+    let name = text(alloc, b"snapshot_001")?;
+    let all = whole.get(&name).ok_or("no snapshot")?;
+    let part = all.get(..100).ok_or("short")?;
+    let first = text(alloc, b"snapshot_000")?;
+    let finished = whole.get(&first).ok_or("no snapshot")?;
+    let mut found = false;
+    for call in 6..40 {
+        let mut store = four_steps(alloc, LIST)?;
+        store.fail(call, 100)?;
+        if says(alloc, &RUN, &mut store, 5, "write fault snapshot_001\n")?
+            && holds(alloc, &store, "snapshot_001", part)?
+        {
+            found = true;
+            assert!(rt; holds(alloc, &store, "snapshot_000", finished)?);
+        }
+    }
+    assert!(rt; found);
+    Ok(())
+}
+
+#[test]
+fn a_failing_console_is_answered(rt: HostRuntime) -> Result<(), Fail> {
+    let alloc = rt.alloc();
+    let mut store = store_of(alloc, STEP, &PAIR)?;
+    let mut words = Vec::new(alloc);
+    for word in RUN {
+        words.push(text(alloc, word.as_bytes())?)?;
+    }
+    let mut broken = MemSink::failing_at(alloc, 0);
+    let status = gadget(
+        alloc,
+        &words,
+        &mut store,
+        &mut LastSchedule,
+        &mut NeverStop,
+        &mut broken,
+    );
+    assert_eq!(rt; status.code(), 6);
+    let want = snapshot(alloc, &[at(1, 0, 2001626), at(2, 999, -2001626)], 2)?;
+    assert!(rt; holds(alloc, &store, "snapshot_000", &want)?);
     Ok(())
 }
