@@ -1,0 +1,4 @@
+pub mod Leasts
+pub mod Ranked
+pub mod Counted
+pub mod Lowered

@@ -1,0 +1,80 @@
+// Which rank owns each body.
+ghost use Rattle.std.specs.Prelude.{◌≡◌, ◌≤◌, ◌<◌, ◌+◌, ◌*◌, ◌^◌, IfOk, length, slice_index_or};
+ghost use Rattle.std.specs.List.{AllByRecursion};
+ghost use Rattle.nbody_model.specs.Bodies.{BodyData, IsValid};
+ghost use Rattle.model_laws.specs.Laws.{AreBodies};
+ghost use Rattle.octree_build.specs.Trees.{key_at};
+ghost use Rattle.octree_build.specs.Order.{IsNumbered, placed};
+ghost use Rattle.domain_split.specs.Splits.{owner_of, owners_of};
+
+use crate::search::count_below;
+use fixed_point::Memory;
+use hilbert_keys::key_of;
+use model_laws::laws::bodies::keep_limits;
+use nbody_model::Body;
+use std::alloc::Global;
+
+/// The number of the body at a place: its key, and the place below it.
+fn number_at(bodies: &[Body], i: usize) -> u128
+    requires place { i < length bodies.now }
+    requires few { length bodies.now ≤ 1048576 }
+    ensures { (d : BodyData) → result ≡ key_at (slice_index_or bodies.now i d) * 2 ^ 20 + i }
+{
+    let body = &bodies[i];
+    key_of(body.motion.pos()) * (1 << 20) + i as u128
+}
+
+/// The numbers of all bodies.
+fn numbers_of(alloc: Global, bodies: &[Body]) -> Result<Vec<u128>, Memory>
+    requires { length bodies.now ≤ 1048576 }
+    ensures { IfOk result (λ numbers. numbers.items ≡ placed 0 bodies.now) }
+{
+    let mut numbers = Vec::with_capacity(alloc, bodies.len())?;
+    for i in 0..bodies.len() {
+        numbers.push(number_at(bodies, i))?;
+    }
+    Ok(numbers)
+}
+
+/// The numbers of all bodies, the smallest first.
+fn sorted_numbers(alloc: Global, bodies: &[Body]) -> Result<Vec<u128>, Memory>
+    requires { length bodies.now ≤ 1048576 }
+    ensures { IfOk result (λ numbers. IsNumbered bodies.now numbers.items) }
+{
+    let mut numbers = numbers_of(alloc, bodies)?;
+    numbers.sort()?;
+    Ok(numbers)
+}
+
+/// The owner of the body at a place, by the sorted numbers of all.
+fn owner_at(bodies: &[Body], sorted: &[u128], i: usize, ranks: u32) -> u16
+    requires bodies { AreBodies bodies.now }
+    requires sorted { IsNumbered bodies.now sorted.now }
+    requires place { i < length bodies.now }
+    requires some { 1 ≤ ranks }
+    requires few { ranks ≤ 256 }
+    ensures owner { (d : BodyData) → result ≡ owner_of ranks bodies.now (slice_index_or bodies.now i d) }
+    ensures rank { result < ranks }
+{
+    let place = count_below(sorted, number_at(bodies, i));
+    (place * ranks as usize / bodies.len()) as u16
+}
+
+/// The owners of bodies that ascend in id and keep the limits, in the order of the list. Of n bodies in the order of their
+/// keys, and of their ids where keys are equal, the one at place p belongs to rank p · ranks / n, rounded down.
+pub fn split(alloc: Global, bodies: &[Body], ranks: u32) -> Result<Vec<u16>, Memory>
+    requires bodies { IsValid bodies.now }
+    requires some { 1 ≤ ranks }
+    requires few { ranks ≤ 256 }
+    ensures owners { IfOk result (λ owners. owners.items ≡ owners_of ranks bodies.now) }
+    ensures each { IfOk result (λ owners. length owners.items ≡ length bodies.now) }
+    ensures ranks { IfOk result (λ owners. AllByRecursion (λ o. o < ranks) owners.items) }
+{
+    keep_limits(bodies);
+    let sorted = sorted_numbers(alloc, bodies)?;
+    let mut owners = Vec::with_capacity(alloc, bodies.len())?;
+    for i in 0..bodies.len() {
+        owners.push(owner_at(bodies, &sorted, i, ranks))?;
+    }
+    Ok(owners)
+}
