@@ -1,0 +1,12 @@
+pub mod Own
+pub mod Sets
+pub mod Made
+pub mod Numbers
+pub mod Permuted
+pub mod Together
+pub mod Sole
+pub mod Replies
+pub mod Bits
+pub mod Joining
+pub mod Search
+pub mod Divided
