@@ -1,0 +1,13 @@
+pub mod Moves
+pub mod Reached
+pub mod Children
+pub mod Opened
+pub mod Stacks
+pub mod Walked
+pub mod Bridge
+pub mod Bounds
+pub mod Rows
+pub mod Follows
+pub mod Looked
+pub mod Rests
+pub mod Gravities

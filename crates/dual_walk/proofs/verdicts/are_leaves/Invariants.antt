@@ -1,0 +1,4 @@
+use Rattle.dual_walk.proofs.verdicts.are_leaves.Given as goal
+
+abbrev pub ghost-is_leaf : goal.ghost-is_leaf
+ghost-is_leaf g a = g.w

@@ -1,0 +1,5 @@
+pub mod Places
+pub mod Courses
+pub mod Steps
+pub mod Verdicts
+pub mod Gravities
