@@ -1,0 +1,10 @@
+pub mod Seats
+pub mod Slots
+pub mod Tables
+pub mod Laws
+pub mod Walked
+pub mod Asked
+pub mod Starts
+pub mod Walkers
+pub mod Sent
+pub mod Divided

@@ -1,0 +1,34 @@
+// The walk by the opening rule and the force of pairs.
+ghost use Rattle.std.specs.Prelude.{◌≡◌, OnOk, IfOk, option_copied};
+ghost use Rattle.rank_walk.specs.Seats.{IsSeat, Seat};
+ghost use Rattle.rank_walk.specs.Walkers.{AsksNow, CountsNow, IsKeptFor, WalksOn};
+
+use crate::{NodeLaw, Source, Walked, Walker};
+use ewald_table::Table;
+use fixed_point::Memory;
+use nbody_model::Setup;
+use node_moments::Moments;
+use pair_law::{accept_of, force_of};
+use std::alloc::Global;
+
+/// A walk by the opening rule and the force of pairs.
+pub fn walk_by_rule<S: Source>(
+    walker: &mut Walker,
+    alloc: Global,
+    setup: &Setup,
+    table: Option<&Table>,
+    source: &S,
+) -> Result<Walked, Memory>
+    requires gravity { (S.seat source.now).whole.gravity ≡ record { setup = setup.now; table = option_copied table } }
+    requires seat { IsSeat (S.seat source.now) }
+    requires rank { IsKeptFor (S.seat source.now) walker.old }
+    ensures state { OnOk result (WalksOn (S.seat source.now) walker.old walker.new) }
+    ensures size { IfOk result (λ v. CountsNow (S.seat source.now) walker.old v.size) }
+    ensures asks { IfOk result (λ v. AsksNow (S.seat source.now) walker.old v.asks.items) }
+{
+    let law = NodeLaw {
+        accept: |a: &Moments, b: &Moments| accept_of(setup, a, b),
+        force: |a: &Moments, b: &Moments| force_of(setup, table, a, b),
+    };
+    walker.walk(alloc, &law, source)
+}
