@@ -1,0 +1,14 @@
+pub mod Places
+pub mod AddedUp
+pub mod Totals
+pub mod OwnMembers
+pub mod KeyedUp
+pub mod Parted
+pub mod Groups
+pub mod HandedOut
+pub mod HomeTotals
+pub mod HomeMembers
+pub mod KeyedLists
+pub mod ShareSizes
+pub mod PartsOwed
+pub mod GatheredUp
