@@ -1,0 +1,4 @@
+pub mod Best
+pub mod Main
+pub mod Often
+pub mod Owned
