@@ -1,0 +1,12 @@
+pub mod Ascending
+pub mod Joined
+pub mod MovesBack
+pub mod Negated
+pub mod Placed
+pub mod Spans
+pub mod Runs
+pub mod Halves
+pub mod StepsRead
+pub mod Undone
+pub mod Unkicked
+pub mod Whole
