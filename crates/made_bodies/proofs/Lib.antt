@@ -1,0 +1,4 @@
+pub mod Drawing
+pub mod Joins
+pub mod Sets
+pub mod Writes
