@@ -3,13 +3,14 @@
 
     tests/compare.py [--seed N] [--count N] [--jobs N] [--kinds KIND,..] OTHER..
 
-The kinds are forces, bins, tables, expansions, parameters, lists, snapshots, runs, restarts and sessions; without
+The kinds are forces, bins, tables, expansions, parameters, lists, snapshots, runs, restarts, sessions and made; without
 `--kinds` all of them. OTHER.. is the command line of the other program, behind `--` where it has options; the words
 of a case are put behind it. Each case is made from the seed and its number: some files, whose bodies are of the kinds
 1 to 5, and some words. Both programs are run on them in folders of their own, and their status, what they print and
 all files that they leave are compared. Of a usage line the other program's may go on with more commands. A case of
 `sessions` has many calls: a run unbroken, the same run stopped at each of its questions in turn, and a resumed run
-from each restart file; resumed runs are compared with the unbroken one too. One case of `restarts` in 300 has a call
+from each restart file; resumed runs are compared with the unbroken one too. A case of `made` makes bodies, looks at both
+files, and runs them where they are few. One case of `restarts` in 300 has a call
 for each length to which a restart file can be cut.
 Each difference is printed with the case's folder, which is then kept. A case that `gadget` answers `not built` is
 counted apart. The last line tells the numbers; the exit status is 0 where nothing differs.
@@ -634,9 +635,24 @@ def resume_from_each(both, source, unbroken):
         again.drop()
 
 
+def made_case(rng, both):
+    """Bodies by a count, a seed and a name, one of which may be wrong; a look at both files; and a run where they are few."""
+    count = rng.choice([0, 1, 2, rng.randint(3, 60), rng.randint(61, 3000)])
+    seed = rng.choice([0, 1, rng.randrange(2**32), rng.randrange(2**64), 2**64 - 1])
+    name = "".join(rng.choice("abcxyz0._%") for _ in range(rng.choice([1, 2, 8, 180])))
+    words = ["make", str(count), str(seed), name]
+    if rng.random() < 0.2:
+        words[rng.randint(1, 3)] = rng.choice(["", "x", "007", "-1", "1048577", "18446744073709551616", "n" * 181])
+    both.fill({}).call(words)
+    both.call(["check", name + ".param"])
+    both.call(["show", name + ".ics"])
+    if count <= 60:
+        both.call(["run", name + ".param", "1"])
+
+
 # Of a staged kind a case makes its own calls; of the others it is one call.
 KINDS = {"forces": forces, "bins": bins, "tables": tables, "expansions": expansions, "parameters": parameters, "lists": lists, "snapshots": snapshots, "runs": runs}
-STAGED = {"restarts": restarts_case, "sessions": sessions_case}
+STAGED = {"restarts": restarts_case, "sessions": sessions_case, "made": made_case}
 
 
 # ---- running

@@ -1,4 +1,4 @@
-"""Both examples, from making the bodies to the pictures."""
+"""The examples, from making the bodies to the pictures, where they have some."""
 import subprocess
 
 import gadget_tools
@@ -40,3 +40,11 @@ def test_expanding_box(example):
     kicks = gadget_tools.read(folder / "kicks.txt")
     assert all(row == kicks.momentum[0] for row in kicks.momentum)
     assert colours_of(folder / "waves.png") > 20
+
+
+def test_cluster(example):
+    folder = example("cluster")
+    first, last = (gadget_tools.read(folder / name).bodies for name in ("c.ics", "c_out_000"))
+    assert len(first) == len(last) == 4000
+    kicks = gadget_tools.read(folder / "c.kicks")
+    assert len(set(kicks.bin)) > 1 and all(row == [38386965, -3720755, -215765] for row in kicks.momentum)

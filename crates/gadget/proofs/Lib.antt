@@ -15,6 +15,7 @@ pub mod OneParams
 pub mod OneList
 pub mod OneFile
 pub mod OneReading
+pub mod OneMaking
 pub mod OneAnswer
 pub mod OneEnd
 pub mod Resumes

@@ -23,8 +23,8 @@ use Rattle.run_session.specs.Own.{own_files}
 use Rattle.gadget.specs.declared.status.Status.{Status}
 use Rattle.gadget.specs.declared.status.Status.TheVariants.{Done, MomRange, StepRange, Snapshot, Usage, NotBuilt}
 use Rattle.gadget.specs.declared.outcome.Outcome.{Outcome}
-use Rattle.gadget.specs.declared.outcome.Outcome.TheVariants.{Ran, Checked, Shown, Refused}
-use Rattle.gadget.specs.Commands.{nothing, unbuilt, run, resume, check, show}
+use Rattle.gadget.specs.declared.outcome.Outcome.TheVariants.{Ran, Checked, Shown, Made, Refused}
+use Rattle.gadget.specs.Commands.{nothing, run, resume, check, show, make}
 use Rattle.gadget.specs.Texts.{check_text, done_text, show_text, status_text}
 use Rattle.gadget.specs.Outcomes.{status_at, text_at, status_of, text_of}
 use Rattle.gadget.specs.Decided.{AnswersAreExact, IsDecided, IsOneAnswer}
@@ -35,6 +35,7 @@ use Rattle.gadget.specs.Begins.{first_state, plan_by}
 use Rattle.gadget.specs.Answers.{CheckDoes, OnRanks, RefusesAtOnce, ResumeDoes, RunDoes, SessionEnds, ShowDoes, Untouched, seen}
 use Rattle.gadget.proofs.Exact.{IsExact}
 use Rattle.gadget.proofs.OneEnd.{events_one, leaves_one}
+use Rattle.gadget.proofs.OneMaking.{make_one}
 use Rattle.gadget.proofs.OneSnapshot.{IsNoSnapshot, snapshot_exact}
 use Rattle.gadget.proofs.OneFile.{SnapshotRefuses, file_exact, snapshot_refused}
 use Rattle.gadget.proofs.OneReading.{RunStages, RunGiven, RunValue, run_value, run_exact, run_refused, run_given, ResumeStages, ResumeGiven, ResumeValue, resume_value, resume_exact, resume_refused, resume_given}
@@ -205,10 +206,13 @@ run_one A Y B Z name (Refused a) (Refused b) same h k i j =
     refused_one (RunStages A.files name) A Y B Z a b same (run_exact A.files name).one_refusal (run_refused (seen true A Y) name refl a i h.0) (subst (λ F. RunStages F name b) same (run_refused (seen true B Z) name refl b j k.0)) h.1 k.1
 run_one A Y B Z name (Checked C) q same h k i j = absurd h
 run_one A Y B Z name (Shown head C) q same h k i j = absurd h
+run_one A Y B Z name (Made n m) q same h k i j = absurd h
 run_one A Y B Z name (Ran e s) (Checked C) same h k i j = absurd k
 run_one A Y B Z name (Ran e s) (Shown head C) same h k i j = absurd k
+run_one A Y B Z name (Ran e s) (Made n m) same h k i j = absurd k
 run_one A Y B Z name (Refused a) (Checked C) same h k i j = absurd k
 run_one A Y B Z name (Refused a) (Shown head C) same h k i j = absurd k
+run_one A Y B Z name (Refused a) (Made n m) same h k i j = absurd k
 
 resume_one : (A Y B Z : World) (name restart : List ℕ) (o q : Outcome) → B.files ≡ A.files → ResumeDoes true A Y name restart o → ResumeDoes true B Z name restart q → IsDecided (status_of o) → IsDecided (status_of q) → IsOneAnswer Y Z o q
 resume_one A Y B Z name restart (Ran e s) (Ran f t) same h k i j =
@@ -226,10 +230,13 @@ resume_one A Y B Z name restart (Refused a) (Refused b) same h k i j =
     refused_one (ResumeStages A.files name restart) A Y B Z a b same (resume_exact A.files name restart).one_refusal (resume_refused (seen true A Y) name restart refl a i h.0) (subst (λ F. ResumeStages F name restart b) same (resume_refused (seen true B Z) name restart refl b j k.0)) h.1 k.1
 resume_one A Y B Z name restart (Checked C) q same h k i j = absurd h
 resume_one A Y B Z name restart (Shown head C) q same h k i j = absurd h
+resume_one A Y B Z name restart (Made n m) q same h k i j = absurd h
 resume_one A Y B Z name restart (Ran e s) (Checked C) same h k i j = absurd k
 resume_one A Y B Z name restart (Ran e s) (Shown head C) same h k i j = absurd k
+resume_one A Y B Z name restart (Ran e s) (Made n m) same h k i j = absurd k
 resume_one A Y B Z name restart (Refused a) (Checked C) same h k i j = absurd k
 resume_one A Y B Z name restart (Refused a) (Shown head C) same h k i j = absurd k
+resume_one A Y B Z name restart (Refused a) (Made n m) same h k i j = absurd k
 
 -- ---- the commands that write nothing
 
@@ -253,10 +260,13 @@ check_one A Y B Z name (Refused a) (Refused b) same h k l m i j =
     refused_one (RunStages A.files name) A Y B Z a b same (run_exact A.files name).one_refusal (run_refused (seen true A Y) name refl a i h) (subst (λ F. RunStages F name b) same (run_refused (seen true B Z) name refl b j k)) l m
 check_one A Y B Z name (Ran e u) q same h k l m i j = absurd h
 check_one A Y B Z name (Shown head C) q same h k l m i j = absurd h
+check_one A Y B Z name (Made n b) q same h k l m i j = absurd h
 check_one A Y B Z name (Checked C) (Ran e u) same h k l m i j = absurd k
 check_one A Y B Z name (Checked C) (Shown head D) same h k l m i j = absurd k
+check_one A Y B Z name (Checked C) (Made n b) same h k l m i j = absurd k
 check_one A Y B Z name (Refused a) (Ran e u) same h k l m i j = absurd k
 check_one A Y B Z name (Refused a) (Shown head D) same h k l m i j = absurd k
+check_one A Y B Z name (Refused a) (Made n b) same h k l m i j = absurd k
 
 -- a snapshot with its head
 abbrev Spells : List ℕ → Head × List BodyData → Type 0
@@ -290,10 +300,13 @@ show_one A Y B Z name (Refused a) (Refused b) same h k l m i j =
     refused_one (SnapshotRefuses A.files name) A Y B Z a b same (show_exact A.files name).one_refusal (snapshot_refused (seen true A Y) name refl a i h) (subst (λ F. SnapshotRefuses F name b) same (snapshot_refused (seen true B Z) name refl b j k)) l m
 show_one A Y B Z name (Ran e u) q same h k l m i j = absurd h
 show_one A Y B Z name (Checked C) q same h k l m i j = absurd h
+show_one A Y B Z name (Made n b) q same h k l m i j = absurd h
 show_one A Y B Z name (Shown a C) (Ran e u) same h k l m i j = absurd k
 show_one A Y B Z name (Shown a C) (Checked D) same h k l m i j = absurd k
+show_one A Y B Z name (Shown a C) (Made n b) same h k l m i j = absurd k
 show_one A Y B Z name (Refused a) (Ran e u) same h k l m i j = absurd k
 show_one A Y B Z name (Refused a) (Checked D) same h k l m i j = absurd k
+show_one A Y B Z name (Refused a) (Made n b) same h k l m i j = absurd k
 
 -- ---- every command
 
@@ -308,8 +321,8 @@ on_ranks ranks A Y B Z o q P Q same (inr h) (inr k) f = f h.1 k.1
 
 pub answers_exact : AnswersAreExact
 answers_exact nothing A Y B Z o q same h k i j = at_once A Y B Z o q Usage same h k
-answers_exact unbuilt A Y B Z o q same h k i j = at_once A Y B Z o q NotBuilt same h k
 answers_exact (run param ranks) A Y B Z o q same h k i j = on_ranks ranks A Y B Z o q (RunDoes true A Y param o) (RunDoes true B Z param q) same h k (λ f g. run_one A Y B Z param o q same f g i j)
 answers_exact (resume param restart ranks) A Y B Z o q same h k i j = on_ranks ranks A Y B Z o q (ResumeDoes true A Y param restart o) (ResumeDoes true B Z param restart q) same h k (λ f g. resume_one A Y B Z param restart o q same f g i j)
 answers_exact (check param) A Y B Z o q same h k i j = check_one A Y B Z param o q same h.0 k.0 h.1 k.1 i j
 answers_exact (show name) A Y B Z o q same h k i j = show_one A Y B Z name o q same h.0 k.0 h.1 k.1 i j
+answers_exact (make count seed name) A Y B Z o q same h k i j = make_one A Y B Z count seed name o q same h.0 k.0 i j

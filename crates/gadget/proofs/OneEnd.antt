@@ -13,7 +13,7 @@ use Rattle.force_field.specs.Lists.{quiet}
 use Rattle.run_session.specs.Own.{Own, OwnTexts, IsOther, Stands, followed}
 use Rattle.run_session.specs.Outputs.{Leaves, end_mark, session_texts, with_written}
 
-same_or : (n m : List ℕ) → (n ≡ m) ⊎ (n ≢ m)
+pub same_or : (n m : List ℕ) → (n ≡ m) ⊎ (n ≢ m)
 same_or n m = by (bytes_eq n m) refl
   where
     by : (b : Bool) → bytes_eq n m ≡ b → (n ≡ m) ⊎ (n ≢ m)

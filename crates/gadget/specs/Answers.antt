@@ -18,12 +18,13 @@ use Rattle.run_session.specs.Worlds.{World, world_by}
 use Rattle.gadget.specs.declared.status.Status.{Status}
 use Rattle.gadget.specs.declared.status.Status.TheVariants.{Usage, Memory, ConsoleFault, NotBuilt}
 use Rattle.gadget.specs.declared.outcome.Outcome.{Outcome}
-use Rattle.gadget.specs.declared.outcome.Outcome.TheVariants.{Ran, Checked, Shown, Refused}
-use Rattle.gadget.specs.Commands.{Asked, nothing, unbuilt, run, resume, check, show}
+use Rattle.gadget.specs.declared.outcome.Outcome.TheVariants.{Ran, Checked, Shown, Made, Refused}
+use Rattle.gadget.specs.Commands.{Asked, nothing, run, resume, check, show, make}
 use Rattle.gadget.specs.Reads.{Seen}
 use Rattle.gadget.specs.Inputs.{InputsData}
 use Rattle.gadget.specs.Snapshots.{NamesSnapshot, SnapshotRefusal}
 use Rattle.gadget.specs.Begins.{BeginsWith, RunRefusal, GoesOnFrom, GoesOnAsKept, ResumeRefusal, first_state, plan_by}
+use Rattle.gadget.specs.Making.{MakeDoes}
 use Rattle.gadget.specs.Outcomes.{status_of, text_of}
 
 -- ---- what is told before and after
@@ -57,6 +58,11 @@ console O out = record { written = O.written out; faults = O.faults out }
 pub record Untouched (A Z : World) : Type 0 where
   pub files : Z.files ≡ A.files
   pub closed : Z.closed ≡ A.closed
+  pub yes : Z.yes ≡ A.yes
+  pub left : Z.left ≡ A.left
+
+-- nobody was asked whether to stop
+pub record Unasked (A Z : World) : Type 0 where
   pub yes : Z.yes ≡ A.yes
   pub left : Z.left ≡ A.left
 
@@ -96,12 +102,14 @@ RunDoes told A Z name (Ran ended s) = IsRun told A Z name ended s
 RunDoes told A Z name (Refused status) = RunRefusal (seen told A Z) name status × Untouched A Z
 RunDoes told A Z name (Checked B) = ⊥
 RunDoes told A Z name (Shown head B) = ⊥
+RunDoes told A Z name (Made count made) = ⊥
 
 abbrev pub ResumeDoes : Bool → World → World → List ℕ → List ℕ → Outcome → Type 0
 ResumeDoes told A Z name restart (Ran ended s) = IsResumed told A Z name restart ended s
 ResumeDoes told A Z name restart (Refused status) = ResumeRefusal (seen told A Z) name restart status × Untouched A Z
 ResumeDoes told A Z name restart (Checked B) = ⊥
 ResumeDoes told A Z name restart (Shown head B) = ⊥
+ResumeDoes told A Z name restart (Made count made) = ⊥
 
 -- ---- the commands that write nothing
 
@@ -116,12 +124,14 @@ CheckDoes s name (Checked B) = (s.faults_new ≡ s.faults) × (IsTrue s.tells �
 CheckDoes s name (Refused status) = RunRefusal s name status
 CheckDoes s name (Ran ended setup) = ⊥
 CheckDoes s name (Shown head B) = ⊥
+CheckDoes s name (Made count made) = ⊥
 
 abbrev pub ShowDoes : Seen → List ℕ → Outcome → Type 0
 ShowDoes s name (Shown head B) = (s.faults_new ≡ s.faults) × (IsTrue s.tells → NamesSnapshot s.files name head B)
 ShowDoes s name (Refused status) = SnapshotRefusal s name status
 ShowDoes s name (Ran ended setup) = ⊥
 ShowDoes s name (Checked B) = ⊥
+ShowDoes s name (Made count made) = ⊥
 
 -- ---- every command
 
@@ -136,11 +146,11 @@ OnRanks ranks A Z outcome P = ((ranks ≢ 1) × RefusesAtOnce A Z outcome NotBui
 -- what a command may come to, and what it leaves
 abbrev pub Does : Asked → Bool → World → World → Outcome → Type 0
 Does nothing told A Z outcome = RefusesAtOnce A Z outcome Usage
-Does unbuilt told A Z outcome = RefusesAtOnce A Z outcome NotBuilt
 Does (run param ranks) told A Z outcome = OnRanks ranks A Z outcome (RunDoes told A Z param outcome)
 Does (resume param restart ranks) told A Z outcome = OnRanks ranks A Z outcome (ResumeDoes told A Z param restart outcome)
 Does (check param) told A Z outcome = CheckDoes (seen told A Z) param outcome × Untouched A Z
 Does (show name) told A Z outcome = ShowDoes (seen told A Z) name outcome × Untouched A Z
+Does (make count seed name) told A Z outcome = MakeDoes told A Z count seed name outcome × Unasked A Z
 
 -- ---- what is printed
 

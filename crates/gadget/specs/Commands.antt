@@ -1,20 +1,20 @@
 -- What the words ask for.
-use Rattle.std.specs.Prelude.{ℕ, ◌^◌, ◌-◌, Bool, ◌&&◌, nat_le, if◌then◌else◌, List, [], ◌∷◌, length, codes, Option, Some, None, is_some, Result, Ok, Err}
+use Rattle.std.specs.Prelude.{ℕ, ◌^◌, ◌-◌, Bool, ◌&&◌, nat_le, if◌then◌else◌, List, [], ◌∷◌, length, codes, Option, Some, None, Result, Ok, Err}
 use Rattle.std.specs.Str.{bytes_eq}
 use Rattle.std.specs.List.{list_all}
 use Rattle.store_io.specs.Names.{is_name, is_visible}
 use Rattle.text_words.specs.declared.number.NumErr.{NumErr}
 use Rattle.text_words.specs.Numbers.{whole_number}
 
--- nothing that is known; a command that isn't built; a run by a parameter file on so many ranks; a run that goes on from
--- a restart file besides; what a run would read; or what a snapshot holds
+-- nothing that is known; a run by a parameter file on so many ranks; a run that goes on from a restart file besides; what
+-- a run would read; what a snapshot holds; or so many bodies that are drawn from a seed, in files of a name
 pub data Asked : Type 0 where
   nothing : Asked
-  unbuilt : Asked
   run : List ℕ → ℕ → Asked
   resume : List ℕ → List ℕ → ℕ → Asked
   check : List ℕ → Asked
   show : List ℕ → Asked
+  make : ℕ → ℕ → List ℕ → Asked
 
 -- 1 to `most` visible bytes
 abbrev pub is_visible_name : ℕ → List ℕ → Bool
@@ -36,8 +36,11 @@ abbrev pub resume_on : List ℕ → List ℕ → Option ℕ → Asked
 resume_on param restart (Some ranks) = resume param restart ranks
 resume_on param restart None = nothing
 
-abbrev pub unbuilt_if : Bool → Asked
-unbuilt_if well_formed = if well_formed then unbuilt else nothing
+-- a name to which `_restart` or the like can still be put
+abbrev pub make_as : Option ℕ → Option ℕ → List ℕ → Asked
+make_as (Some count) (Some seed) name = if is_visible_name 180 name then make count seed name else nothing
+make_as (Some count) None name = nothing
+make_as None seed name = nothing
 
 -- a restart file or a snapshot: a base of 200 bytes, `_` and 20 digits
 abbrev pub is_numbered_name : List ℕ → Bool
@@ -55,7 +58,7 @@ asked_of_three word param ranks =
 abbrev pub asked_of_four : List ℕ → List ℕ → List ℕ → List ℕ → Asked
 asked_of_four word a b c =
     if bytes_eq word (codes "resume") then (if is_name a && is_numbered_name b then resume_on a b (number_in 1 256 c) else nothing)
-    else (if bytes_eq word (codes "make") then unbuilt_if (is_some (number_in 0 1048576 a) && (is_some (number_in 0 (2 ^ 64 - 1) b) && is_visible_name 180 c)) else nothing)
+    else (if bytes_eq word (codes "make") then make_as (number_in 0 1048576 a) (number_in 0 (2 ^ 64 - 1) b) c else nothing)
 
 -- what the words ask for
 abbrev pub asked : List (List ℕ) → Asked

@@ -5,6 +5,7 @@ pub mod Codes
 pub mod Commands
 pub mod Factors
 pub mod Inputs
+pub mod Making
 pub mod Outcomes
 pub mod Reads
 pub mod Restarts

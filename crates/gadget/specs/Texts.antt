@@ -164,6 +164,10 @@ show_text head B =
     codes "tick" ++ spaced head.tick ++ codes " number" ++ spaced head.number ++ codes " " ++ totals_text B ++
     type_text head 1 ++ type_text head 2 ++ type_text head 3 ++ type_text head 4 ++ type_text head 5
 
+-- how many bodies were made, in a snapshot of this name
+abbrev pub made_text : ℕ → List ℕ → List ℕ
+made_text count name = codes "made" ++ spaced count ++ codes " bodies in " ++ name ++ codes ".ics\n"
+
 abbrev pub done_text : Ended → List ℕ
 done_text run =
     counted (codes "done tick") run.tick ++ counted (codes " steps") run.steps ++ counted (codes " snapshots") run.snapshots ++

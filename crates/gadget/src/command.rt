@@ -1,15 +1,15 @@
 // What the words ask for.
-ghost use Rattle.std.specs.Prelude.{◌≡◌, codes};
+ghost use Rattle.std.specs.Prelude.{◌≡◌, ◌≤◌, ◌-◌, ◌^◌, IfSome, codes};
 ghost use Rattle.std.specs.Str.{bytes_eq};
 ghost use Rattle.std.specs.List.{list_all};
 ghost use Rattle.store_io.specs.Names.{is_visible, is_name};
 ghost use Rattle.gadget.specs.Asks.{Means};
-ghost use Rattle.gadget.specs.Commands.{asked, asked_of_two, asked_of_three, asked_of_four, is_visible_name, number_in, resume_on, run_on, unbuilt_if};
+ghost use Rattle.gadget.specs.Commands.{asked, asked_of_two, asked_of_three, asked_of_four, is_visible_name, make_as, number_in, resume_on};
 
 use store_io::Text;
 use text_words::read_whole_number;
 
-/// What the words ask for. `Unbuilt` stands for words that are well formed, of a command that isn't built.
+/// What the words ask for.
 #[derive(Clone, Copy)]
 pub enum Command<'a> {
     Nothing,
@@ -28,7 +28,11 @@ pub enum Command<'a> {
     Show {
         snapshot: &'a Text,
     },
-    Unbuilt,
+    Make {
+        count: u64,
+        seed: u64,
+        name: &'a Text,
+    },
 }
 
 /// A base of 200 bytes, `_` and 20 digits.
@@ -64,7 +68,8 @@ fn is_visible_name(word: &Text, most: usize) -> bool
 
 // The number that a word spells, where it lies in this range.
 fn number_in(word: &Text, least: u64, most: u64) -> Option<u64>
-    ensures { result ≡ number_in least most word.now }
+    ensures value { result ≡ number_in least most word.now }
+    ensures high { IfSome result (λ n. n ≤ most) }
 {
     match read_whole_number(word.bytes()) {
         Ok(n) => {
@@ -75,17 +80,6 @@ fn number_in(word: &Text, least: u64, most: u64) -> Option<u64>
             }
         }
         Err(_) => None,
-    }
-}
-
-// A command that isn't built, where its words are well formed.
-fn unbuilt_if<'a>(well_formed: bool) -> Command<'a>
-    ensures { Means result (unbuilt_if well_formed) }
-{
-    if well_formed {
-        Command::Unbuilt
-    } else {
-        Command::Nothing
     }
 }
 
@@ -136,7 +130,23 @@ fn resume_on<'a>(param: &'a Text, restart: &'a Text, ranks: &Text) -> Command<'a
     }
 }
 
-fn of_four<'a>(word: &Text, a: &'a Text, b: &'a Text, c: &Text) -> Command<'a>
+// Bodies that are made, where there are a number of them, a seed and a name.
+fn make_as<'a>(count: &Text, seed: &Text, name: &'a Text) -> Command<'a>
+    ensures { Means result (make_as (number_in 0 1048576 count.now) (number_in 0 (2 ^ 64 - 1) seed.now) name.now) }
+{
+    let Some(count) = number_in(count, 0, MOST_BODIES) else {
+        return Command::Nothing;
+    };
+    let Some(seed) = number_in(seed, 0, u64::MAX) else {
+        return Command::Nothing;
+    };
+    if is_visible_name(name, LONGEST_MADE) {
+        return Command::Make { count, seed, name };
+    }
+    Command::Nothing
+}
+
+fn of_four<'a>(word: &Text, a: &'a Text, b: &'a Text, c: &'a Text) -> Command<'a>
     ensures { Means result (asked_of_four word.now a.now b.now c.now) }
 {
     if is_word(word, b"resume") {
@@ -146,10 +156,7 @@ fn of_four<'a>(word: &Text, a: &'a Text, b: &'a Text, c: &Text) -> Command<'a>
         return Command::Nothing;
     }
     if is_word(word, b"make") {
-        return unbuilt_if(
-            number_in(a, 0, MOST_BODIES).is_some()
-                && (number_in(b, 0, u64::MAX).is_some() && is_visible_name(c, LONGEST_MADE)),
-        );
+        return make_as(a, b, c);
     }
     Command::Nothing
 }

@@ -9,6 +9,7 @@ mod inputs;
 mod laws;
 mod look;
 mod look_texts;
+mod make;
 mod outcome;
 mod restart_texts;
 mod restarts;

@@ -7,6 +7,7 @@ ghost use Rattle.gadget.specs.Answers.{Does, Ends, Prints, console, edge_by, wor
 use crate::command::{Command, command_of};
 use crate::look::{check, show};
 use crate::look_texts::{check_line, show_lines};
+use crate::make::{made_line, make};
 use crate::outcome::Outcome;
 use crate::run_texts::{run_line, run_status};
 use crate::sessions::{resume, run};
@@ -29,7 +30,6 @@ fn perform<S: Store, Q: Stopper>(
 {
     match command_of(words) {
         Command::Nothing => Outcome::Refused(Status::Usage),
-        Command::Unbuilt => Outcome::Refused(Status::NotBuilt),
         Command::Run { param, ranks } => {
             if ranks != 1 {
                 return Outcome::Refused(Status::NotBuilt);
@@ -48,6 +48,7 @@ fn perform<S: Store, Q: Stopper>(
         }
         Command::Check { param } => check(alloc, store, param),
         Command::Show { snapshot } => show(alloc, store, snapshot),
+        Command::Make { count, seed, name } => make(alloc, store, count, seed, name),
     }
 }
 
@@ -59,6 +60,7 @@ fn lines_of(alloc: Global, outcome: &Outcome) -> Result<Vec<u8>, Memory>
         Outcome::Ran { ended, setup } => run_line(alloc, ended, setup),
         Outcome::Checked { set } => check_line(alloc, set),
         Outcome::Shown { head, set } => show_lines(alloc, head, set),
+        Outcome::Made { count, name } => made_line(alloc, *count, name),
         Outcome::Refused(status) => status_line(alloc, status),
     }
 }
@@ -69,7 +71,7 @@ fn status_of(outcome: Outcome) -> Status
 {
     match outcome {
         Outcome::Ran { ended, .. } => run_status(ended),
-        Outcome::Checked { .. } | Outcome::Shown { .. } => Status::Done,
+        Outcome::Checked { .. } | Outcome::Shown { .. } | Outcome::Made { .. } => Status::Done,
         Outcome::Refused(status) => status,
     }
 }

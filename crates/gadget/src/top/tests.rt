@@ -6,6 +6,7 @@ use store_io::{LastSchedule, MemSink, MemStore, NeverStop};
 mod cuts;
 mod forces;
 mod inputs;
+mod makes;
 mod runs;
 mod stops;
 

@@ -76,7 +76,7 @@ fn words_and_files_are_answered(rt: HostRuntime) -> Result<(), Fail> {
             7,
             "absent nothing\n",
         ),
-        (&["make", "1", "2", "c"], 9, "not built\n"),
+        (&["make", "1048577", "2", "c"], 2, usage),
         (&["run", "nothing", "1"], 7, "absent nothing\n"),
         (&["run", "long", "1"], 8, "too long long 65537\n"),
     ];
