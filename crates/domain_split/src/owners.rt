@@ -1,50 +1,17 @@
 // Which rank owns each body.
-ghost use Rattle.std.specs.Prelude.{◌≡◌, ◌≤◌, ◌<◌, ◌+◌, ◌*◌, ◌^◌, IfOk, length, slice_index_or};
+ghost use Rattle.std.specs.Prelude.{◌≡◌, ◌≤◌, ◌<◌, IfOk, length, slice_index_or};
 ghost use Rattle.std.specs.List.{AllByRecursion};
 ghost use Rattle.nbody_model.specs.Bodies.{BodyData, IsValid};
 ghost use Rattle.model_laws.specs.Laws.{AreBodies};
-ghost use Rattle.octree_build.specs.Trees.{key_at};
-ghost use Rattle.octree_build.specs.Order.{IsNumbered, placed};
+ghost use Rattle.octree_build.specs.Order.{IsNumbered};
 ghost use Rattle.domain_split.specs.Splits.{owner_of, owners_of};
 
 use crate::search::count_below;
 use fixed_point::Memory;
-use hilbert_keys::key_of;
 use model_laws::laws::bodies::keep_limits;
 use nbody_model::Body;
+use octree_build::{number_at, sorted_numbers};
 use std::alloc::Global;
-
-/// The number of the body at a place: its key, and the place below it.
-fn number_at(bodies: &[Body], i: usize) -> u128
-    requires place { i < length bodies.now }
-    requires few { length bodies.now ≤ 1048576 }
-    ensures { (d : BodyData) → result ≡ key_at (slice_index_or bodies.now i d) * 2 ^ 20 + i }
-{
-    let body = &bodies[i];
-    key_of(body.motion.pos()) * (1 << 20) + i as u128
-}
-
-/// The numbers of all bodies.
-fn numbers_of(alloc: Global, bodies: &[Body]) -> Result<Vec<u128>, Memory>
-    requires { length bodies.now ≤ 1048576 }
-    ensures { IfOk result (λ numbers. numbers.items ≡ placed 0 bodies.now) }
-{
-    let mut numbers = Vec::with_capacity(alloc, bodies.len())?;
-    for i in 0..bodies.len() {
-        numbers.push(number_at(bodies, i))?;
-    }
-    Ok(numbers)
-}
-
-/// The numbers of all bodies, the smallest first.
-fn sorted_numbers(alloc: Global, bodies: &[Body]) -> Result<Vec<u128>, Memory>
-    requires { length bodies.now ≤ 1048576 }
-    ensures { IfOk result (λ numbers. IsNumbered bodies.now numbers.items) }
-{
-    let mut numbers = numbers_of(alloc, bodies)?;
-    numbers.sort()?;
-    Ok(numbers)
-}
 
 /// The owner of the body at a place, by the sorted numbers of all.
 fn owner_at(bodies: &[Body], sorted: &[u128], i: usize, ranks: u32) -> u16

@@ -19,7 +19,7 @@ pub(crate) struct Along {
 }
 
 /// The number of the body at a place: its key, and the place below it.
-fn number_at(bodies: &[Body], i: usize) -> u128
+pub fn number_at(bodies: &[Body], i: usize) -> u128
     requires place { i < length bodies.now }
     requires few { length bodies.now ≤ 1048576 }
     ensures { (d : BodyData) → result ≡ key (slice_index_or bodies.now i d).motion.pos * 2 ^ 20 + i }
@@ -41,7 +41,7 @@ fn numbers_of(alloc: Global, bodies: &[Body]) -> Result<Vec<u128>, Memory>
 }
 
 /// The numbers of all bodies, the smallest first.
-fn sorted_numbers(alloc: Global, bodies: &[Body]) -> Result<Vec<u128>, Memory>
+pub fn sorted_numbers(alloc: Global, bodies: &[Body]) -> Result<Vec<u128>, Memory>
     requires { length bodies.now ≤ 1048576 }
     ensures { IfOk result (λ numbers. IsNumbered bodies.now numbers.items) }
 {

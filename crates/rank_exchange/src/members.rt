@@ -5,35 +5,17 @@ ghost use Rattle.cell_space.specs.Cells.{CellData};
 ghost use Rattle.nbody_model.specs.Bodies.{BodyData};
 ghost use Rattle.nbody_model.specs.Nodes.{members};
 ghost use Rattle.octree_build.specs.Trees.{Rises, high_of, key_at, low_of};
-ghost use Rattle.octree_build.specs.Slots.{AreKeyed, keys_below};
+ghost use Rattle.octree_build.specs.Slots.{AreKeyed};
 ghost use Rattle.octree_build.proofs.Parts.{part};
 ghost use Rattle.rank_exchange.specs.Members.{AreNumbered, AreOwn, AreSorted, IsMembersRange, IsNumber, listed_at, listed_in, number_of};
 
 use crate::contents::Listed;
 use cell_space::Cell;
+use domain_split::count_below;
 use fixed_point::Memory;
 use hilbert_keys::{cell_key_range, is_of_box, key_of};
 use nbody_model::Body;
 use std::alloc::Global;
-
-/// How many of some keys that rise are below a bound.
-#[tactic(auto, using(octree_build::proofs::Edges::goes_on, octree_build::proofs::Edges::stops))]
-pub(crate) fn count_below(keys: &[u128], bound: u128) -> usize
-    requires { Rises (λ k. k) keys.now }
-    ensures { result ≡ keys_below keys.now bound }
-{
-    let mut low = 0;
-    let mut high = keys.len();
-    while low < high {
-        let middle = low + (high - low) / 2;
-        if keys[middle] < bound {
-            low = middle + 1;
-        } else {
-            high = middle;
-        }
-    }
-    low
-}
 
 /// Where the members of a cell begin and end among bodies in the order of the curve, which have these keys.
 fn range_of(keys: &[u128], cell: &Cell) -> (usize, usize)

@@ -13,9 +13,9 @@ ghost use Rattle.rank_exchange.specs.Shares.{AreNumbers, AreSorted, HaveIds, IsN
 
 use crate::contents::{Listed, Summed};
 use crate::keyed::Keyed;
-use crate::members::count_below;
 use crate::sums::place_of;
 use cell_space::Cell;
+use domain_split::count_below;
 use fixed_point::{Memory, V3};
 use force_sharing::{Scratch, share};
 use std::alloc::Global;

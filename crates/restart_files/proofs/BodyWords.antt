@@ -8,7 +8,7 @@ use Rattle.fixed_point.proofs.ReadBack.{word32_back, word64_back, signed64_back,
 use Rattle.nbody_model.specs.Bodies.{BodyData}
 use Rattle.nbody_model.specs.RestartText.{body_bytes}
 use Rattle.restart_files.specs.Texts.{deep_body_bytes}
-use Rattle.restart_files.specs.Stored.{IsStorable}
+use Rattle.particle_set.specs.Stored.{IsStorable}
 
 -- what begins at an index, where each element takes as many bytes
 pub entry_at : {A : Type 0} (f : A → List ℕ) (w : ℕ) → ((x : A) → length (f x) ≡ w) → (xs : List A) (tail : List ℕ) (i : ℕ) (d : A) → i < length xs

@@ -15,7 +15,8 @@ use Rattle.nbody_model.specs.RestartText.{body_bytes, restart_text, rest_text, w
 use Rattle.particle_set.specs.declared.row.Row.{Row}
 use Rattle.particle_set.specs.Rows.{IsSetOf, HasMass, HasMomentum, body_of}
 use Rattle.restart_files.specs.Texts.{deep_body_bytes}
-use Rattle.restart_files.specs.Stored.{AreStorable, IsKept, IsStorable}
+use Rattle.particle_set.specs.Stored.{IsStorable}
+use Rattle.restart_files.specs.Stored.{AreStorable, IsKept}
 use Rattle.restart_files.specs.RestartFile.{Spell, body_place, count_in, deepest_in, depth_in, depths_in, end_mark, is_between_steps, is_inside_step, is_tick, low_bin_in, row_in, rows_in, setup_in, state_in, steps_in, tick_in, time_max_in, top_bin_in, version_in, width_of}
 use Rattle.restart_files.proofs.Front.{IsFront}
 use Rattle.restart_files.proofs.BodyWords.{IsBodyAt, IsDeepBodyAt, deep_body, plain_body}

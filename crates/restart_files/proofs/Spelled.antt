@@ -12,7 +12,8 @@ use Rattle.nbody_model.specs.States.{StateData}
 use Rattle.nbody_model.specs.RestartText.{restart_head}
 use Rattle.restart_files.specs.declared.errors.RestartErr.{RestartErr}
 use Rattle.restart_files.specs.declared.errors.RestartErr.TheVariants.{Field}
-use Rattle.restart_files.specs.Stored.{AreStorable, IsStorable}
+use Rattle.particle_set.specs.Stored.{IsStorable}
+use Rattle.restart_files.specs.Stored.{AreStorable}
 use Rattle.restart_files.specs.RestartFile.{NoFaultBelow, body_fault, body_place, count_in, end_mark, first_fault, has_wrong_depth, has_wrong_id, has_wrong_kind, head_fault, is_count, is_from_to, is_tick, is_version, low_bin_in, restart_tag, rules_fault, softening_fault, tick_fault, version_in, width_of}
 use Rattle.restart_files.proofs.EachBody.{none_wrong}
 use Rattle.restart_files.proofs.Front.{IsFront, front_back, text}

@@ -1,9 +1,8 @@
 -- States that a restart file keeps, and what reading their text gives.
 use Rattle.std.specs.Prelude.{◌≡◌, ◌⊎◌, ℕ, ◌<◌, ◌≤◌, ◌^◌, List, [], length}
-use Rattle.nbody_model.specs.Bodies.{BodyData, IsInRange}
+use Rattle.nbody_model.specs.Bodies.{BodyData}
 use Rattle.nbody_model.specs.Setups.{SetupData}
 use Rattle.nbody_model.specs.States.{StateData, IsSynchronisation, IsRest}
-use Rattle.cell_space.specs.Cells.{InBox}
 
 -- no depth, or one for each body
 abbrev pub HasDepths : List BodyData → List ℕ → Type 0
@@ -12,16 +11,6 @@ HasDepths bodies depths = (depths ≡ []) ⊎ (length depths ≡ length bodies)
 -- a state from which a run goes on: between two base steps, or inside one
 abbrev pub IsKept : SetupData → StateData → Type 0
 IsKept s σ = IsSynchronisation s σ ⊎ IsRest s σ
-
--- a kind, a mass, an id, a position and a momentum that a restart file has room for
-pub record IsStorable (b : BodyData) : Type 0 where
-  pub kind_low : 1 ≤ b.kind
-  pub kind_high : b.kind ≤ 5
-  pub heavy : 1 ≤ b.mass
-  pub light : b.mass < 2 ^ 32
-  pub id : b.id < 2 ^ 64
-  pub in_box : InBox b.motion.pos
-  pub momentum : IsInRange b.motion.mom
 
 -- counters that a restart file has room for
 pub record AreStorable (σ : StateData) : Type 0 where

@@ -1,30 +1,12 @@
 // What reading a restart file gives after it was written.
-ghost use Rattle.std.specs.Prelude.{All};
 ghost use Rattle.nbody_model.specs.RestartText.{restart_text};
 ghost use Rattle.restart_files.specs.Exact.{ReadOneWay};
 ghost use Rattle.restart_files.specs.RestartFile.{Spell};
-ghost use Rattle.restart_files.specs.Stored.{AreStorable, IsKept, IsStorable};
+ghost use Rattle.restart_files.specs.Stored.{AreStorable, IsKept};
 
 use crate::State;
-use nbody_model::{Body, Setup};
-
-fn is_storable(body: &Body)
-    ensures { IsStorable body.now }
-{
-    let _position = body.motion.pos();
-    let _momentum = body.motion.mom();
-    let _id = body.id;
-    let _kind = body.kind;
-    let _mass = body.mass;
-}
-
-fn are_bodies_storable(bodies: &[Body])
-    ensures { All IsStorable bodies.now }
-{
-    for body in bodies {
-        is_storable(body);
-    }
-}
+use nbody_model::Setup;
+use particle_set::are_storable;
 
 fn are_counters_storable(state: &State)
     ensures { AreStorable state.now }
@@ -43,7 +25,7 @@ pub fn written_states_are_read(state: &State, setup: &Setup)
     requires { IsKept setup.now state.now }
     ensures { Spell (restart_text state.now setup.now) state.now setup.now }
 {
-    are_bodies_storable(state.set.bodies());
+    are_storable(state.set.bodies());
     are_counters_storable(state);
     let _time_max = setup.time_max;
 }

@@ -17,7 +17,7 @@ use Rattle.nbody_model.specs.Steps.{at_each, drifted, drift, change, kicked_by, 
 use Rattle.nbody_model.specs.Evolve.{Kicked, Progress, tell, MomRange, Going, Refused, record_of, kick, evolve}
 use Rattle.model_laws.specs.Preserved.{Holds, IsPreserved}
 use Rattle.model_laws.proofs.Preserved.{evolves}
-use Rattle.restart_files.specs.Stored.{IsStorable}
+use Rattle.particle_set.specs.Stored.{IsStorable}
 
 -- the ids and masses are those of B, and a file has room for each number
 pub record AreSafe (B now : List BodyData) : Type 0 where

@@ -12,7 +12,8 @@ use Rattle.model_laws.specs.Resumed.{IsOneOf, GoesOn}
 use Rattle.model_laws.proofs.Resumed.{sessions_go_on}
 use Rattle.restart_files.specs.declared.errors.RestartErr.{RestartErr}
 use Rattle.restart_files.specs.declared.errors.RestartErr.TheVariants.{Field}
-use Rattle.restart_files.specs.Stored.{AreStorable, IsKept, IsStorable}
+use Rattle.particle_set.specs.Stored.{IsStorable}
+use Rattle.restart_files.specs.Stored.{AreStorable, IsKept}
 use Rattle.restart_files.specs.RestartFile.{Spell, bodies_fault, head_fault, is_between_steps, is_inside_step, is_tick, low_bin_in, rules_fault, softening_fault, steps_in, tick_fault, tick_in, time_max_in, top_bin_in, version_in}
 use Rattle.restart_files.proofs.Front.{IsFront, front_back}
 use Rattle.restart_files.proofs.Joins.{without}

@@ -6,7 +6,7 @@ use Rattle.nbody_model.specs.States.{StateData, IsStart}
 use Rattle.nbody_model.specs.Session.{Plan, Restart, session, kept}
 use Rattle.nbody_model.specs.RestartText.{restart_text}
 use Rattle.model_laws.specs.Resumed.{IsOneOf, GoesOn}
-use Rattle.restart_files.specs.Stored.{IsStorable}
+use Rattle.particle_set.specs.Stored.{IsStorable}
 use Rattle.restart_files.specs.RestartFile.{Spell}
 
 -- where a run from tick 0 begins: nothing is done yet, and the bodies are a set whose numbers a file has room for
