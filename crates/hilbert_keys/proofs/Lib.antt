@@ -5,3 +5,5 @@ pub mod Widths
 pub mod Descents
 pub mod Neighbours
 pub mod Ranges
+pub mod Tables
+pub mod DoubleSteps

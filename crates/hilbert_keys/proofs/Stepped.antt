@@ -1,12 +1,11 @@
 -- The table's steps are those of the curve.
-use Rattle.std.proofs.Common.{◌≡◌, ℕ, suc, ◌+◌, ◌-◌, ◌*◌, ◌/◌, ◌%◌, ◌^◌, ◌<◌, ◌≤◌, Bool, true, eqb, ltb, ◌&&◌, refl, ◌∙◌, subst, arith, slice_index}
+use Rattle.std.proofs.Common.{◌≡◌, ℕ, suc, ◌+◌, ◌*◌, ◌/◌, ◌%◌, ◌^◌, ◌<◌, Bool, true, eqb, ltb, ◌&&◌, refl, ◌∙◌, subst, arith, slice_index}
 use Rattle.std.proofs.lemmas.Bool.{and_parts, eqb-true, ltb-true}
 use Rattle.cell_space.specs.Cells.{Position, digit}
 use Rattle.cell_space.proofs.Cells.{digit_below}
 use Rattle.hilbert_keys.specs.Curve.{Turn, place_of, next_turn, along, key}
 use Rattle.hilbert_keys.specs.Steps.{steps, turn_numbered, IsAt}
 use Rattle.hilbert_keys.proofs.Turns.{all_under, under}
-use Rattle.hilbert_keys.proofs.Widths.{powers}
 
 -- the entry for a turn and a child is right
 abbrev right : ℕ → ℕ → Bool
@@ -53,9 +52,8 @@ next_along l p n turn k a b c d f =
 pub next_at : (l : ℕ) (p : Position) (n turn k : ℕ) → IsAt l p n turn → k ≡ digit p l → IsAt (l + 1) p (n * 8 + slice_index steps (turn * 8 + k) % 8) (slice_index steps (turn * 8 + k) / 8)
 next_at l p n turn k i d = let e : suc l ≡ l + 1 = omega arith in subst (λ t. IsAt t p (n * 8 + slice_index steps (turn * 8 + k) % 8) (slice_index steps (turn * 8 + k) / 8)) e (next_along l p n turn k i.counted i.lies i.known d i.few)
 
--- so there is room for one digit more
-pub fits_still : (l : ℕ) (p : Position) (n turn : ℕ) → l < 32 → IsAt l p n turn → n < 2 ^ 93
-fits_still l p n turn h i = let e : l + (31 - l) ≡ 31 = omega (arith, h) in let f : 8 ^ l ≤ 8 ^ 31 = subst (λ t. 8 ^ l ≤ 8 ^ t) e (powers l (31 - l)) in omega (arith, i.few, f)
+pub known_next : (n k : ℕ) → n < 24 → k < 8 → slice_index steps (n * 8 + k) / 8 < 24
+known_next n k h l = (is_right n k h l).known
 
 pub start_at : (p : Position) → IsAt 0 p 0 0
 unfolding along

@@ -1,5 +1,5 @@
 -- The curve by a table of turns.
-use Rattle.std.specs.Prelude.{◌≡◌, ◌<◌, ℕ, ◌/◌, ◌%◌, ◌^◌, List, [], ◌∷◌, slice_index}
+use Rattle.std.specs.Prelude.{◌≡◌, ◌<◌, ℕ, ◌+◌, ◌-◌, ◌*◌, ◌/◌, ◌%◌, ◌^◌, List, [], ◌∷◌, slice_index}
 use Rattle.cell_space.specs.Cells.{Position, CellData, width_of}
 use Rattle.hilbert_keys.specs.Curve.{Turn, along, number_of, turn_of, keys_in, IsCell}
 
@@ -10,6 +10,34 @@ steps = 8 ∷ 87 ∷ 17 ∷ 142 ∷ 147 ∷ 148 ∷ 18 ∷ 141 ∷ 16 ∷ 131 �
 -- for each turn and each place: 8 · the next turn + the child there
 unfoldable pub descents : List ℕ
 descents = 8 ∷ 18 ∷ 22 ∷ 148 ∷ 149 ∷ 143 ∷ 139 ∷ 81 ∷ 16 ∷ 4 ∷ 5 ∷ 129 ∷ 131 ∷ 79 ∷ 78 ∷ 162 ∷ 0 ∷ 9 ∷ 11 ∷ 90 ∷ 94 ∷ 159 ∷ 157 ∷ 124 ∷ 33 ∷ 43 ∷ 47 ∷ 173 ∷ 172 ∷ 118 ∷ 114 ∷ 56 ∷ 41 ∷ 29 ∷ 28 ∷ 104 ∷ 106 ∷ 54 ∷ 55 ∷ 187 ∷ 25 ∷ 32 ∷ 34 ∷ 67 ∷ 71 ∷ 182 ∷ 180 ∷ 101 ∷ 58 ∷ 64 ∷ 68 ∷ 102 ∷ 103 ∷ 189 ∷ 185 ∷ 35 ∷ 66 ∷ 54 ∷ 55 ∷ 179 ∷ 177 ∷ 29 ∷ 28 ∷ 112 ∷ 50 ∷ 59 ∷ 57 ∷ 40 ∷ 44 ∷ 109 ∷ 111 ∷ 174 ∷ 83 ∷ 89 ∷ 93 ∷ 127 ∷ 126 ∷ 164 ∷ 160 ∷ 10 ∷ 91 ∷ 79 ∷ 78 ∷ 154 ∷ 152 ∷ 4 ∷ 5 ∷ 137 ∷ 75 ∷ 82 ∷ 80 ∷ 17 ∷ 21 ∷ 132 ∷ 134 ∷ 151 ∷ 108 ∷ 118 ∷ 114 ∷ 48 ∷ 49 ∷ 43 ∷ 47 ∷ 181 ∷ 116 ∷ 96 ∷ 97 ∷ 37 ∷ 39 ∷ 171 ∷ 170 ∷ 70 ∷ 100 ∷ 109 ∷ 111 ∷ 190 ∷ 186 ∷ 59 ∷ 57 ∷ 24 ∷ 133 ∷ 143 ∷ 139 ∷ 73 ∷ 72 ∷ 18 ∷ 22 ∷ 156 ∷ 141 ∷ 121 ∷ 120 ∷ 12 ∷ 14 ∷ 146 ∷ 147 ∷ 95 ∷ 125 ∷ 132 ∷ 134 ∷ 167 ∷ 163 ∷ 82 ∷ 80 ∷ 1 ∷ 158 ∷ 164 ∷ 160 ∷ 2 ∷ 3 ∷ 89 ∷ 93 ∷ 135 ∷ 166 ∷ 146 ∷ 147 ∷ 87 ∷ 85 ∷ 121 ∷ 120 ∷ 20 ∷ 150 ∷ 159 ∷ 157 ∷ 140 ∷ 136 ∷ 9 ∷ 11 ∷ 74 ∷ 183 ∷ 189 ∷ 185 ∷ 27 ∷ 26 ∷ 64 ∷ 68 ∷ 110 ∷ 191 ∷ 171 ∷ 170 ∷ 62 ∷ 60 ∷ 96 ∷ 97 ∷ 45 ∷ 175 ∷ 182 ∷ 180 ∷ 117 ∷ 113 ∷ 32 ∷ 34 ∷ 51 ∷ []
+
+-- the children that two bits of z, of y and of x choose at two levels
+abbrev pub upper_child : ℕ → ℕ
+upper_child bits = 4 * (bits / 32) + (2 * (bits / 8 % 2) + bits / 2 % 2)
+
+abbrev pub lower_child : ℕ → ℕ
+lower_child bits = 4 * (bits / 16 % 2) + (2 * (bits / 4 % 2) + bits % 2)
+
+-- of the entries of two steps: 64 · the turn after both + the two places
+abbrev pub after : ℕ → ℕ → ℕ
+after first second = second / 8 * 64 + (first % 8 * 8 + second % 8)
+
+-- the same for a turn and two bits of each coordinate
+unfoldable pub two_steps : ℕ → ℕ → ℕ
+two_steps turn bits =
+    let first = slice_index steps (turn * 8 + upper_child bits) in
+    after first (slice_index steps (first / 8 * 8 + lower_child bits))
+
+-- the pairs of bits of a byte, six bits apart
+abbrev pub spread : ℕ → ℕ
+spread byte = byte / 64 * 262144 + (byte / 16 % 4 * 4096 + (byte / 4 % 4 * 64 + byte % 4))
+
+-- the bits of a coordinate, and of a position, that choose the children at eight levels from one on
+abbrev pub byte_at : ℕ → ℕ → ℕ
+byte_at n l = n / 2 ^ (24 - l) % 256
+
+abbrev pub eight_levels : Position → ℕ → ℕ
+eight_levels p l = 16 * spread (byte_at p.z l) + (4 * spread (byte_at p.y l) + spread (byte_at p.x l))
 
 -- a turn by its number
 abbrev pub turn_numbered : ℕ → Turn

@@ -2,6 +2,7 @@
 #![tactic(auto)]
 
 mod cells;
+mod double_steps;
 mod keys;
 mod laws;
 mod positions;

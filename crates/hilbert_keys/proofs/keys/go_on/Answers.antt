@@ -1,10 +1,6 @@
-use Rattle.std.proofs.Common.{◌+◌, ◌*◌, ◌/◌, ◌%◌, sym, subst}
 use Rattle.cell_space.specs.Cells.{place}
-use Rattle.hilbert_keys.specs.Steps.{IsAt}
-use Rattle.hilbert_keys.proofs.Stepped.{next_at}
+use Rattle.hilbert_keys.proofs.DoubleSteps.{eight_on}
 use Rattle.hilbert_keys.proofs.keys.go_on.Goals as goal
 
 pub returns : goal.returns
-returns c =
-    subst (λ v. IsAt (c.args.level + 1) (place c.args.pos) (c.args.at.number * 8 + v % 8) (v / 8)) (sym c.step-next.ensures)
-    (next_at c.args.level (place c.args.pos) c.args.at.number c.args.at.turn c.digit.result c.requires.at c.digit.ensures.value)
+returns c = eight_on c.args.level (place c.args.pos) c.args.at.number c.args.at.turn c.interleaved-bits.result _ _ _ _ c.requires.level c.requires.at c.interleaved-bits.ensures.value c.double_step-first.ensures.value c.double_step-second.ensures.value c.double_step-third.ensures.value c.double_step-fourth.ensures.value
