@@ -1,6 +1,6 @@
 -- A rank after a walk.
 use Rattle.std.proofs.Common.{◌≡◌, ℕ, ◌+◌, ◌*◌, ◌<◌, ◌≤◌, ◌^◌, eqb, ltb, suc, ℤ, Bool, true, false, cond, ◌&&◌, ◌||◌, not, List, [], ◌∷◌, ◌++◌, map, length, sum_by, get_or, ◌+ℤ◌, refl, ap, sym, ◌∙◌, arith, ◌⊎◌, inl, inr, subst}
-use Rattle.std.specs.Prelude.{Option, Some, None}
+use Rattle.std.specs.Prelude.{Option, Some}
 use Rattle.std.specs.List.{filter, flat_map, list_any, AllByRecursion}
 use Rattle.std.specs.List.Sorted.{IsNonDecreasingBy, IsPermutation}
 use Rattle.std.specs.BTreeMap.{BTreeMap, get}
@@ -9,9 +9,7 @@ use Rattle.std.proofs.lemmas.Bool.{false≢true, and_parts, cases_lt, le-ltb, or
 use Rattle.std.proofs.lemmas.List.{map-append, get_or_append_left}
 use Rattle.std.proofs.lemmas.List.Elements.{filter-append}
 use Rattle.std.proofs.lemmas.List.Concat.{flat_map-append}
-use Rattle.std.proofs.lemmas.List.Sums.{sum_by-cons}
-use Rattle.std.proofs.lemmas.List.Sorted.{IsNonDecreasingBy-drop, sum_by-IsPermutation, IsPermutation-map}
-use Rattle.std.proofs.lemmas.Bool.Decides.{nat_tests}
+use Rattle.std.proofs.lemmas.List.Sorted.{sum_by-IsPermutation, IsPermutation-map}
 use Rattle.fixed_point.specs.Vectors.{plus, IsAtMost}
 use Rattle.cell_space.specs.Cells.{CellData, root_cell, same_cell}
 use Rattle.cell_space.proofs.Cells.{same_cell-exact}
@@ -24,23 +22,23 @@ use Rattle.model_laws.proofs.Sums.{sum_by-flat_map, sum_by-zero}
 use Rattle.model_laws.proofs.Ranks.{sum_by-on}
 use Rattle.rank_laws.specs.Homes.{Keys}
 use Rattle.rank_laws.specs.Trees.{worked, waiting}
-use Rattle.rank_laws.specs.Machine.{Pair, Rank, cells_of, done_after, fresh, is_fresh, is_one, knows, knows_both, list_after, need, todo}
-use Rattle.rank_laws.specs.Whole.{IsInOrder, counted_in, depth_of, goes_first, in_order, is_counted, next_of, opening, rules_of, start_of}
+use Rattle.rank_laws.specs.Machine.{Pair, Rank, cells_of, done_after, is_fresh, is_one, knows, knows_both, list_after, need, todo}
+use Rattle.rank_laws.specs.Whole.{IsInOrder, counted_in, depth_of, goes_first, is_counted, next_of}
 use Rattle.rank_laws.proofs.Axes.{on, on_sum, on_each, total-append}
 use Rattle.rank_laws.proofs.Fairness.{in_order-same, in_order-times, next_falls, rules_fair}
 use Rattle.rank_laws.proofs.Machine.{among_one, needed, one_among}
-use Rattle.rank_laws.proofs.Order.{AreTold, ascends, one_order}
+use Rattle.rank_laws.proofs.Order.{ascends, one_order}
 use Rattle.rank_laws.proofs.Waiting.{none_known, often_none, often_some, reached_more, some_often}
 use Rattle.rank_walk.specs.declared.heard.Heard.{Heard}
 use Rattle.rank_walk.specs.declared.places.Places.{Places}
 use Rattle.rank_walk.specs.declared.ranked.Ranked.{Ranked}
 use Rattle.rank_walk.specs.declared.walker.Walker.{Walker}
-use Rattle.rank_walk.specs.Asked.{AreDistinct, IsAskedFor, IsAsking, IsRanked, cells_at, known_cell, noted, on_list, times}
-use Rattle.rank_walk.specs.Seats.{IsPlaced, IsSeat, Seat, Side, is_home, knows_cell, order_of, rules, side}
+use Rattle.rank_walk.specs.Asked.{AreDistinct, IsAskedFor, IsRanked, cells_at, known_cell, noted, on_list, times}
+use Rattle.rank_walk.specs.Seats.{IsPlaced, IsSeat, Seat, is_home, order_of, rules, side}
 use Rattle.rank_walk.specs.Slots.{SlotData, no_slot, slot_at, cell_at_place, cells_in, cells, flag_at, sum_at_place, value_at}
-use Rattle.rank_walk.specs.Tables.{IsIn, IsTable, known_at}
-use Rattle.rank_walk.specs.Walked.{AreListed, IsHeard, IsWorkedOff, MayWork, all_counted, all_waiting, all_worked, done_to, takes_part}
-use Rattle.rank_walk.specs.Walkers.{IsInRun, IsKept, IsWalker, asks_of, counted_of, walked_on, walked_size, weight_from}
+use Rattle.rank_walk.specs.Tables.{IsIn, IsTable}
+use Rattle.rank_walk.specs.Walked.{AreListed, IsWorkedOff, MayWork, all_counted, all_waiting, all_worked, done_to, takes_part}
+use Rattle.rank_walk.specs.Walkers.{IsInRun, IsWalker, asks_of, counted_of, walked_on, walked_size}
 use Rattle.rank_walk.proofs.Few.{few_counted, settled_then}
 use Rattle.rank_walk.proofs.Growth.{StandsAt, heard_same, length_append, stands_at}
 use Rattle.rank_walk.proofs.Lists.{at_map, length_map}
@@ -104,7 +102,7 @@ asked_by ss ts e xs ys f start asked before after cs a = subst (λ t. IsAskedFor
 
 -- a cell that stands at a place
 pub placed : (z : Seat) (ss : List SlotData) → IsTable z ss → (i : ℕ) → i < length ss → IsPlaced z.whole (cell_at_place ss i)
-placed z ss table i low = record { shallow = (table.each i low).shallow; member = (table.each i low).member }
+placed z ss table i low = record { shallow = (table.each i low).shallow; standing = (table.each i low).standing }
 
 -- cells whose numbers differ
 module _ (z : Seat) (seat : IsSeat z) where

@@ -1,14 +1,11 @@
 -- A rank before its first walk.
-use Rattle.std.proofs.Common.{◌≡◌, ℕ, zero, suc, ◌+◌, ◌*◌, ◌<◌, ◌≤◌, ◌^◌, Bool, true, false, cond, ◌&&◌, ◌||◌, List, [], ◌∷◌, map, length, sum_by, get_or, refl, ap, sym, ◌∙◌, arith, subst}
-use Rattle.std.specs.Prelude.{Some, is_some}
+use Rattle.std.proofs.Common.{◌≡◌, ℕ, zero, suc, ◌*◌, ◌<◌, ◌^◌, Bool, true, false, cond, ◌&&◌, ◌||◌, List, [], ◌∷◌, map, length, sum_by, get_or, refl, ap, sym, ◌∙◌, arith, subst}
 use Rattle.std.specs.List.{AllByRecursion, list_any}
-use Rattle.std.specs.BTreeMap.{BTreeMap, get}
-use Rattle.std.specs.Ordering.{nat_cmp}
 use Rattle.std.proofs.lemmas.Bool.{false≢true}
 use Rattle.fixed_point.specs.Vectors.{origin, IsAtMost}
-use Rattle.cell_space.specs.Cells.{CellData, root_cell, same_cell}
+use Rattle.cell_space.specs.Cells.{CellData, same_cell}
 use Rattle.rank_laws.specs.Homes.{in_span}
-use Rattle.rank_laws.specs.Machine.{Pair, Rank, is_one, knows_both, todo}
+use Rattle.rank_laws.specs.Machine.{Rank, is_one, knows_both, todo}
 use Rattle.rank_laws.specs.Whole.{counted_in, root_pair, start_of}
 use Rattle.rank_walk.specs.declared.heard.Heard.{Heard}
 use Rattle.rank_walk.specs.declared.places.Places.{Places}
@@ -16,9 +13,9 @@ use Rattle.rank_walk.specs.declared.walker.Walker.{Walker}
 use Rattle.rank_walk.specs.Seats.{IsSeat, Seat, is_home, knows_cell, rules, side}
 use Rattle.rank_walk.specs.Slots.{SlotData, slot_at, cell_at_place, cells_in, cells, flag_at, two, sum_at_place, value_at}
 use Rattle.rank_walk.specs.Starts.{BeginsWith, knows_places}
-use Rattle.rank_walk.specs.Tables.{IsFresh, IsIn, IsOpened, IsSlot, IsTable, known_at}
-use Rattle.rank_walk.specs.Walked.{AreListed, IsHeard, IsListed, Same, done_to, takes_part}
-use Rattle.rank_walk.specs.Walkers.{IsUnwalked, IsWalker, counted_of, weight_from}
+use Rattle.rank_walk.specs.Tables.{IsIn, IsOpened, IsSlot, IsTable, known_at}
+use Rattle.rank_walk.specs.Walked.{AreListed, IsHeard, Same, done_to, takes_part}
+use Rattle.rank_walk.specs.Walkers.{IsUnwalked, IsWalker, weight_from}
 use Rattle.rank_walk.proofs.Values.{none_at}
 
 -- whether both cells of a pair on a list are known
@@ -26,7 +23,7 @@ pub knows_some : (z : Seat) (replies : List CellData) (h : Heard) → IsHeard (s
 knows_some z replies h was [] a = refl
 knows_some z replies h was (x ∷ xs) a = λ i. (was.knows x.a a.0.first i && was.knows x.b a.0.second i) || knows_some z replies h was xs a.1 i
 
-module _ (z : Seat) (seat : IsSeat z) (h : Heard) (b : BeginsWith z h) (s : Rank) (u : IsUnwalked s) where
+module _ (z : Seat) (seat : IsSeat z) (h : Heard) (b : BeginsWith h z) (s : Rank) (u : IsUnwalked s) where
   abbrev r : SlotData
   r = b.root
 

@@ -1,5 +1,5 @@
 -- A rank counts at most 2^40 interactions.
-use Rattle.std.proofs.Common.{◌≡◌, ℕ, zero, suc, ◌+◌, ◌*◌, ◌<◌, ◌≤◌, ◌^◌, Bool, true, false, cond, List, [], ◌∷◌, ◌++◌, length, map, sum_by, refl, ap, sym, ◌∙◌, arith, ◌⊎◌, inl, inr}
+use Rattle.std.proofs.Common.{◌≡◌, ℕ, zero, suc, ◌+◌, ◌*◌, ◌<◌, ◌≤◌, ◌^◌, cond, List, [], ◌∷◌, ◌++◌, length, sum_by, ap, sym, ◌∙◌, arith, ◌⊎◌, inl, inr}
 use Rattle.std.specs.List.{filter, flat_map, count_by, range_with_len}
 use Rattle.std.proofs.lemmas.Bool.{cases_lt}
 use Rattle.std.proofs.lemmas.List.Sums.{sum_by-cons, sum_by-append, count_by-le-length}
@@ -10,9 +10,9 @@ use Rattle.model_laws.proofs.Firsts.{interactions_by_bodies}
 use Rattle.model_laws.proofs.Partners.{ones}
 use Rattle.model_laws.proofs.Sums.{sum_by-flat_map, sum_by-mapped}
 use Rattle.model_laws.proofs.Walk.{filter_sum}
-use Rattle.rank_laws.specs.Trees.{all_from, worked, waiting}
+use Rattle.rank_laws.specs.Trees.{all_from, worked}
 use Rattle.rank_laws.specs.Machine.{Pair, Rank, done_after, knows_both, list_after, todo}
-use Rattle.rank_laws.specs.Whole.{Whole, counted, counted_in, depth_of, is_counted, next_of, opening, ranks, ranks_of, rules_of, start_of}
+use Rattle.rank_laws.specs.Whole.{Whole, counted, counted_in, depth_of, is_counted, next_of, opening, ranks_of, start_of}
 use Rattle.rank_laws.proofs.Counted.{as_many}
 use Rattle.rank_laws.proofs.Fairness.{next_falls}
 use Rattle.rank_laws.proofs.Waiting.{settled_list}

@@ -3,25 +3,27 @@ use Rattle.std.proofs.Common.{◌≡◌, ◌≢◌, ℕ, zero, suc, ◌+◌, ◌
 use Rattle.std.specs.List.{filter, flat_map, AllByRecursion}
 use Rattle.std.proofs.lemmas.List.{map-append, get_or_append_left}
 use Rattle.std.proofs.lemmas.Bool.{false≢true, cases_lt}
-use Rattle.cell_space.specs.Cells.{CellData, root_cell, same_cell}
-use Rattle.cell_space.proofs.Cells.{same_cell-exact}
+use Rattle.cell_space.specs.Cells.{AreDisjoint, CellData, InBox, contains, root_cell, same_cell}
+use Rattle.cell_space.proofs.Cells.{root_contains, same_cell-exact}
 use Rattle.nbody_model.specs.Covers.{Opening, leaf, final}
 use Rattle.nbody_model.specs.Walks.{kids, down, over_both, over_pairs, gives, has_member}
-use Rattle.model_laws.proofs.Among.{each-append, each-weaker, each-flat_map, each-filter}
+use Rattle.model_laws.proofs.Among.{Witness, each-among, each-append, each-weaker, each-flat_map, each-filter}
 use Rattle.model_laws.proofs.Apart.{AreApart, LiesIn, EachTwo, kids_two, down_lie, inner}
 use Rattle.model_laws.proofs.Leaves.{shallow}
 use Rattle.rank_laws.specs.Homes.{concerned}
 use Rattle.std.specs.List.{range_with_len}
 use Rattle.rank_laws.specs.Machine.{Pair}
-use Rattle.rank_laws.specs.Whole.{opening, next_of}
+use Rattle.rank_laws.specs.Whole.{IsWhole, Whole, opening, next_of}
+use Rattle.rank_laws.proofs.Counted.{sound}
 use Rattle.rank_walk.specs.declared.places.Places.{Places}
 use Rattle.rank_walk.specs.Slots.{SlotData, no_slot, cell_at_place, cells_in, cells, meets, row, both, same}
 use Rattle.rank_walk.specs.declared.heard.Heard.{Heard}
-use Rattle.rank_walk.specs.Seats.{Seat, is_home}
+use Rattle.rank_walk.specs.Seats.{Seat, is_home, stands}
 use Rattle.rank_walk.specs.Tables.{IsTable, IsIn, IsGrown, IsDown, IsPushed, known_at}
 use Rattle.rank_walk.specs.Walked.{IsListed, Same, Apart}
 use Rattle.rank_walk.proofs.Lists.{length_map, at_map}
 use Rattle.rank_walk.proofs.Making.{longer_twice}
+use Rattle.rank_walk.proofs.Opened.{some_member}
 
 -- ---- growth
 
@@ -170,16 +172,41 @@ each-pairs : (R : CellData → CellData → Type 0) (Q : Pair → Type 0) → ((
 each-pairs R Q u v [] a = tt
 each-pairs R Q u v (d ∷ ds) a = (u d, each-append Q (flat_map (λ e. (d, e) ∷ []) ds) (over_pairs (λ d. (d, d) ∷ []) (λ d e. (d, e) ∷ []) ds) (each-flat_map (R d) Q (λ e. (d, e) ∷ []) (λ e h. (v d e h, tt)) ds a.0) (each-pairs R Q u v ds a.1))
 
-pub listed_next : (z : Seat) (x : Pair) → has_member (opening z.whole) x.0 ≡ true → has_member (opening z.whole) x.1 ≡ true → IsListed x → AllByRecursion IsListed (next_of z.whole z.rank x)
+-- a cell that stands and hasn't all in common with another one that stands has members
+pub member_of : (w : Whole) → IsWhole w → (c d : CellData) → stands w c ≡ true → stands w d ≡ true → same_cell c d ≡ false → AreDisjoint c d → has_member (opening w) c ≡ true
+member_of w whole c d m n e a = by (has_member (opening w) c) refl m
+  where
+    rooted : (b : Bool) → has_member (opening w) d ≡ b → (b || same_cell d root_cell) ≡ true → c ≡ root_cell → has_member (opening w) c ≡ true
+    rooted true f k r =
+        let p : Witness (contains d) (opening w).positions = some_member (opening w) d f in
+        let at_root : contains root_cell p.it ≡ true = root_contains p.it (each-among InBox p.it (opening w).positions (sound w whole).in_box p.«in») in
+        absurd (a.apart p.it (ap (λ t. contains t p.it) r ∙ at_root) p.passes)
+    rooted false f k r = absurd (false≢true (sym e ∙ (same_cell-exact c d).1 (r ∙ sym ((same_cell-exact d root_cell).0 k))))
+
+    by : (b : Bool) → has_member (opening w) c ≡ b → (b || same_cell c root_cell) ≡ true → has_member (opening w) c ≡ true
+    by true f k = f
+    by false f k = rooted (has_member (opening w) d) refl n ((same_cell-exact c root_cell).0 k)
+
+pub disjoint_turned : (c d : CellData) → AreDisjoint c d → AreDisjoint d c
+disjoint_turned c d a = record { apart = λ p u v. a.apart p v u }
+
+pub differ_turned : (c d : CellData) → same_cell c d ≡ false → same_cell d c ≡ false
+differ_turned c d e = by (same_cell d c) refl
+  where
+    by : (b : Bool) → same_cell d c ≡ b → b ≡ false
+    by true f = absurd (false≢true (sym e ∙ (same_cell-exact c d).1 (sym ((same_cell-exact d c).0 f))))
+    by false f = refl
+
+pub listed_next : (z : Seat) → IsWhole z.whole → (x : Pair) → stands z.whole x.0 ≡ true → stands z.whole x.1 ≡ true → IsListed x → AllByRecursion IsListed (next_of z.whole z.rank x)
 unfolding gives
-listed_next z x m n h = each-filter IsListed (concerned z.whole.keys z.rank) (gives o x) (by (same_cell x.0 x.1) (leaf o x.0) (final o x.0 x.1) refl refl)
+listed_next z whole x m n h = each-filter IsListed (concerned z.whole.keys z.rank) (gives o x) (by (same_cell x.0 x.1) (leaf o x.0) (final o x.0 x.1) refl refl)
   where
     o : Opening
     o = opening z.whole
 
     apart : same_cell x.0 x.1 ≡ false → IsListed x → AreApart o x.0 x.1
     apart e (Same s) = absurd (false≢true (sym e ∙ (same_cell-exact x.0 x.1).1 s))
-    apart e (Apart d) = record { first = m; second = n; apart = d.apart }
+    apart e (Apart d) = record { first = member_of z.whole whole x.0 x.1 m n e d; second = member_of z.whole whole x.1 x.0 n m (differ_turned x.0 x.1 e) (disjoint_turned x.0 x.1 d); apart = d.apart }
 
     by : (s l f : Bool) → same_cell x.0 x.1 ≡ s → leaf o x.0 ≡ l →
         AllByRecursion IsListed (cond s (cond l [] (over_pairs (λ d. (d, d) ∷ []) (λ d e. (d, e) ∷ []) (kids o x.0))) (cond f [] (over_both (λ d e. (d, e) ∷ []) (down o x.0) (down o x.1))))
@@ -187,4 +214,4 @@ listed_next z x m n h = each-filter IsListed (concerned z.whole.keys z.rank) (gi
     by true false f e u = each-pairs (AreApart o) IsListed (λ d. Same refl) (λ d e' a. Apart (record { apart = a.apart })) (kids o x.0) (kids_two o x.0 (shallow o x.0 u))
     by false l true e u = tt
     by false l false e u = each-flat_map (LiesIn o x.0) IsListed (λ d. flat_map (λ e. (d, e) ∷ []) (down o x.1))
-        (λ d p. each-flat_map (LiesIn o x.1) IsListed (λ e. (d, e) ∷ []) (λ e' q. (Apart (record { apart = (inner o x.0 x.1 d e' (apart e h) p q).apart }), tt)) (down o x.1) (down_lie o x.1 n)) (down o x.0) (down_lie o x.0 m)
+        (λ d p. each-flat_map (LiesIn o x.1) IsListed (λ e. (d, e) ∷ []) (λ e' q. (Apart (record { apart = (inner o x.0 x.1 d e' (apart e h) p q).apart }), tt)) (down o x.1) (down_lie o x.1 (apart e h).second)) (down o x.0) (down_lie o x.0 (apart e h).first)

@@ -1,5 +1,5 @@
 -- Slots and what stands beside them, where more slots came, and where a force was added.
-use Rattle.std.proofs.Common.{◌≡◌, ◌≢◌, ℕ, zero, suc, ◌+◌, ◌*◌, ◌<◌, ◌≤◌, ◌^◌, ◌==◌, Bool, true, false, cond, ◌||◌, List, [], ◌∷◌, ◌++◌, map, length, get_or, refl, ap, sym, ◌∙◌, arith, ◌⊎◌, inl, inr, subst}
+use Rattle.std.proofs.Common.{◌≡◌, ℕ, zero, suc, ◌+◌, ◌<◌, ◌≤◌, Bool, true, false, ◌||◌, List, [], ◌∷◌, ◌++◌, map, length, refl, ap, sym, ◌∙◌, arith, ◌⊎◌, inl, inr, subst}
 use Rattle.std.specs.List.{AllByRecursion}
 use Rattle.std.proofs.lemmas.Bool.{false≢true, cases_lt, or_left}
 use Rattle.fixed_point.specs.declared.V3.{V3}
@@ -10,9 +10,9 @@ use Rattle.model_laws.proofs.Among.{any-append}
 use Rattle.rank_laws.specs.Machine.{is_one}
 use Rattle.rank_walk.specs.declared.heard.Heard.{Heard}
 use Rattle.rank_walk.specs.declared.places.Places.{Places}
-use Rattle.rank_walk.specs.Seats.{Seat, Side, is_home, knows_cell}
-use Rattle.rank_walk.specs.Slots.{SlotData, slot_at, cell_at_place, cells_in, cells, value_at, sum_at_place, flag_at}
-use Rattle.rank_walk.specs.Tables.{IsTable, IsGrown, IsIn, KnowsSlots, known_at}
+use Rattle.rank_walk.specs.Seats.{Side, is_home, knows_cell}
+use Rattle.rank_walk.specs.Slots.{SlotData, cell_at_place, cells_in, value_at, sum_at_place, flag_at}
+use Rattle.rank_walk.specs.Tables.{IsTable, IsGrown, KnowsSlots, known_at}
 use Rattle.rank_walk.specs.Walked.{IsHeard, IsListed, AreListed}
 use Rattle.rank_walk.proofs.Given.{grown_long, cell_kept, cells_kept, all_in_kept}
 use Rattle.rank_walk.proofs.Lists.{length_map}

@@ -1,5 +1,5 @@
 -- What a verdict means.
-use Rattle.std.proofs.Common.{◌≡◌, ◌+◌, ◌≤◌, ◌^◌, ◌==◌, Bool, true, false, cond, ◌&&◌, ◌||◌, not, List, [], ◌∷◌, refl, ap, sym, ◌∙◌, ◌⊎◌, inl, inr, subst}
+use Rattle.std.proofs.Common.{◌≡◌, ◌+◌, ◌<◌, ◌≤◌, ◌^◌, ◌==◌, arith, Bool, true, false, cond, ◌&&◌, ◌||◌, not, List, [], ◌∷◌, refl, ap, sym, ◌∙◌, ◌⊎◌, inl, inr, subst}
 use Rattle.std.specs.Prelude.{Some, None}
 use Rattle.std.specs.List.{filter}
 use Rattle.std.proofs.lemmas.Bool.{false≢true, eqb-true, eqb-false}
@@ -13,7 +13,8 @@ use Rattle.nbody_model.specs.PairForce.{pair}
 use Rattle.pair_law.specs.Conditions.{is_final}
 use Rattle.model_laws.specs.Laws.{IsSound}
 use Rattle.model_laws.proofs.Fair.{opening_sound}
-use Rattle.rank_walk.proofs.Masses.{light-both}
+use Rattle.model_laws.proofs.Centres.{node_mass}
+use Rattle.rank_walk.proofs.Masses.{light-both, mass-is}
 use Rattle.rank_laws.specs.Homes.{home, concerned}
 use Rattle.rank_laws.specs.Machine.{Pair}
 use Rattle.rank_laws.specs.Whole.{IsWhole, opening, next_of, is_counted}
@@ -21,10 +22,10 @@ use Rattle.rank_walk.specs.declared.places.Places.{Places}
 use Rattle.rank_walk.specs.declared.verdict.Verdict.{Verdict}
 use Rattle.rank_walk.specs.declared.verdict.Verdict.TheVariants as verdicts
 use Rattle.rank_walk.specs.Slots.{SlotData, slot_at, cell_at_place, cells, judge, judge_of, AreFit}
-use Rattle.rank_walk.specs.Seats.{Seat, Side, knows_cell, moments_of}
+use Rattle.rank_walk.specs.Seats.{Side, knows_cell, moments_of, stands}
 use Rattle.rank_walk.specs.Tables.{IsTable, IsIn, KnowsSlots}
 use Rattle.rank_walk.specs.Walked.{IsListed, Same, Apart, Means, knows_pair}
-use Rattle.rank_walk.proofs.Given.{places_differ}
+use Rattle.rank_walk.proofs.Given.{differ_turned, disjoint_turned, member_of, places_differ}
 
 module _ (z : Side) (ss : List SlotData) (table : IsTable z.seat ss) (knows : KnowsSlots z ss) (x : Places) (h : IsIn ss x) where
   abbrev a : CellData
@@ -99,11 +100,15 @@ module _ (z : Side) (ss : List SlotData) (table : IsTable z.seat ss) (knows : Kn
   judge_means = subst (Means z ss x) (sym judged_is) (means_by (knows_cell z a) (knows_cell z b) (x.a == x.b) (leaf (opening z.seat.whole) a) (final (opening z.seat.whole) a b) (before b a) (home z.seat.whole.keys a == z.seat.rank) (home z.seat.whole.keys b == z.seat.rank) refl refl refl refl refl refl refl refl (same_as (x.a == x.b) refl))
 
   fit_by : (ka kb : Bool) → (moments_of z.seat a).mass + (moments_of z.seat b).mass ≤ 2 ^ 32 → is_final z.seat.whole.gravity.setup (moments_of z.seat a) (moments_of z.seat b) ≡ is_final z.seat.whole.gravity.setup (moments_of z.seat b) (moments_of z.seat a) →
-      AreFit z.seat.whole.gravity (cond ka (Some (moments_of z.seat a)) None) (cond kb (Some (moments_of z.seat b)) None)
-  fit_by true true l f = (l, f)
-  fit_by true false l f = tt
-  fit_by false true l f = tt
-  fit_by false false l f = tt
+      0 < (moments_of z.seat a).mass → 0 < (moments_of z.seat b).mass → AreFit z.seat.whole.gravity (cond ka (Some (moments_of z.seat a)) None) (cond kb (Some (moments_of z.seat b)) None)
+  fit_by true true l f m n = (l, f, m, n)
+  fit_by true false l f m n = tt
+  fit_by false true l f m n = tt
+  fit_by false false l f m n = tt
+
+  -- two cells that stand and have nothing in common have members
+  heavy : IsWhole z.seat.whole → (c d : CellData) → stands z.seat.whole c ≡ true → stands z.seat.whole d ≡ true → same_cell c d ≡ false → AreDisjoint c d → 0 < (moments_of z.seat c).mass
+  heavy w c d m n e p = omega (arith, mass-is z.seat.whole.gravity.setup z.seat.whole.bodies c, node_mass z.seat.whole.bodies w.bodies.heavy c (member_of z.seat.whole w c d m n e p))
 
   swapped : (p q u v : Bool) → u ≡ v → (p && q || u) ≡ (q && p || v)
   swapped true true u v e = refl
@@ -122,4 +127,6 @@ module _ (z : Side) (ss : List SlotData) (table : IsTable z.seat ss) (knows : Kn
       subst (λ m. AreFit z.seat.whole.gravity m (slot_at ss x.b).moments) (sym first_known)
       (subst (AreFit z.seat.whole.gravity (cond (knows_cell z a) (Some (moments_of z.seat a)) None)) (sym second_known)
       (fit_by (knows_cell z a) (knows_cell z b) (light-both z.seat.whole.gravity.setup z.seat.whole.bodies a b w.bodies (apart_of e l))
-      (swapped (moments_of z.seat a).leaf (moments_of z.seat b).leaf ((opening z.seat.whole).accept a b) ((opening z.seat.whole).accept b a) (s.fair a b))))
+      (swapped (moments_of z.seat a).leaf (moments_of z.seat b).leaf ((opening z.seat.whole).accept a b) ((opening z.seat.whole).accept b a) (s.fair a b))
+      (heavy w a b (table.each x.a h.first).standing (table.each x.b h.second).standing (same_as false e) (apart_of e l))
+      (heavy w b a (table.each x.b h.second).standing (table.each x.a h.first).standing (differ_turned a b (same_as false e)) (disjoint_turned a b (apart_of e l)))))

@@ -16,4 +16,7 @@ pub mod Begins
 pub mod Replies
 pub mod Sends
 pub mod Carried
-mod Divided
+pub mod Divided
+pub mod Work
+pub mod Replaced
+pub mod Hears

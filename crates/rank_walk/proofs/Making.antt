@@ -3,7 +3,6 @@ use Rattle.std.proofs.Common.{◌≡◌, ℕ, suc, Bool, true, false, cond, List
 use Rattle.std.specs.Prelude.{is_some}
 use Rattle.std.specs.List.{filter}
 use Rattle.std.proofs.lemmas.List.{append-nil, map-append}
-use Rattle.fixed_point.specs.declared.V3.{V3}
 use Rattle.fixed_point.specs.Vectors.{origin}
 use Rattle.cell_space.specs.Cells.{CellData, child, below}
 use Rattle.model_laws.proofs.Among.{each-append}

@@ -3,8 +3,6 @@ use Rattle.std.proofs.Common.{◌≡◌, ◌≢◌, ℕ, zero, suc, ◌+◌, ◌
 use Rattle.std.proofs.lemmas.List.{append-nil, map-append, get_or_append_left, get_or-append-add, get_or-set_same, get_or-set_other, length-set}
 use Rattle.std.proofs.Math.Seq.{map-set_same}
 use Rattle.std.proofs.lemmas.Bool.{cases_eq, cases_lt}
-use Rattle.fixed_point.specs.declared.V3.{V3}
-use Rattle.fixed_point.specs.Vectors.{origin}
 use Rattle.cell_space.specs.Cells.{CellData, child, below, root_cell, contains}
 use Rattle.nbody_model.specs.Nodes.{is_node}
 use Rattle.nbody_model.specs.Covers.{Opening, leaf}
@@ -20,11 +18,11 @@ use Rattle.rank_laws.proofs.Fairness.{IsKid, kids_are}
 use Rattle.rank_walk.specs.Slots.{SlotData, no_slot, slot_at, cell_at_place, cells_in}
 use Rattle.rank_walk.specs.declared.heard.Heard.{Heard}
 use Rattle.rank_walk.specs.Seats.{Seat, has_child, is_home, moments_of}
-use Rattle.rank_walk.specs.Tables.{IsSlot, IsOpened, IsBorn, IsTable, IsGrown, IsDown, IsLonger, IsMaking, known_at, leaf_of, with_children}
+use Rattle.rank_walk.specs.Tables.{IsSlot, IsOpened, IsBorn, IsTable, IsGrown, IsDown, IsMaking, known_at, leaf_of, with_children}
 use Rattle.rank_walk.proofs.Making.{same_long}
 use Rattle.rank_walk.proofs.Lists.{each-at, length_map, filter_few, at_map, length_range, at_range, range_is, range_same}
 
-some_member : (o : Opening) (a : CellData) → has_member o a ≡ true → Witness (contains a) o.positions
+pub some_member : (o : Opening) (a : CellData) → has_member o a ≡ true → Witness (contains a) o.positions
 unfolding is_node
 some_member o a e = any-witness (contains a) o.positions e
 
@@ -150,7 +148,7 @@ module _ (z : Seat) (h0 : Heard) (ss : List SlotData) (was : ss ≡ h0.slots.ite
     at_new j h = at_other j (λ e. omega (arith, e, h, low)) ∙ new_at j h
 
     slot_kept : (s : SlotData) (f n : ℕ) → IsSlot z s → IsSlot z (with_children s f n)
-    slot_kept s f n h = record { shallow = h.shallow; member = h.member; known = h.known; below = h.below; mine = h.mine; here = h.here; home = h.home; order = h.order }
+    slot_kept s f n h = record { shallow = h.shallow; standing = h.standing; known = h.known; below = h.below; mine = h.mine; here = h.here; home = h.home; order = h.order }
 
     each : (j : ℕ) → j < length xs → IsSlot z (slot_at xs j)
     each j h = by (cases_eq j i) (cases_lt j (length ss))

@@ -1,24 +1,22 @@
 -- A reply comes: one slot is known from then on.
-use Rattle.std.proofs.Common.{◌≡◌, ◌≢◌, ℕ, ◌+◌, ◌*◌, ◌^◌, ◌<◌, ◌≤◌, Bool, true, false, cond, ◌&&◌, ◌||◌, List, [], ◌∷◌, map, set, length, get_or, refl, ap, sym, ◌∙◌, arith, ◌⊎◌, inl, inr, subst}
-use Rattle.std.specs.Prelude.{Option, Some, None, is_some}
+use Rattle.std.proofs.Common.{◌≡◌, ◌≢◌, ℕ, ◌+◌, ◌*◌, ◌^◌, ◌<◌, Bool, true, false, ◌||◌, List, [], ◌∷◌, map, set, length, get_or, refl, ap, sym, ◌∙◌, arith, ◌⊎◌, inl, inr, subst}
+use Rattle.std.specs.Prelude.{Some, is_some}
 use Rattle.std.specs.List.{AllByRecursion, list_any, range_with_len}
 use Rattle.std.specs.BTreeMap.{get}
 use Rattle.std.specs.Ordering.{nat_cmp}
-use Rattle.std.proofs.lemmas.Bool.{false≢true, cases_eq, or_right}
+use Rattle.std.proofs.lemmas.Bool.{cases_eq}
 use Rattle.std.proofs.lemmas.List.{get_or-set_same, get_or-set_other, length-set}
 use Rattle.std.proofs.Math.Seq.{map-set_same}
 use Rattle.fixed_point.specs.Vectors.{IsAtMost}
 use Rattle.cell_space.specs.Cells.{CellData, root_cell, same_cell}
 use Rattle.cell_space.proofs.Cells.{same_cell-exact}
-use Rattle.nbody_model.specs.Moments.{moments}
 use Rattle.rank_laws.specs.Machine.{Rank, is_one, knows_both, todo}
 use Rattle.rank_laws.specs.Whole.{opening}
 use Rattle.nbody_model.specs.Walks.{kids}
-use Rattle.rank_walk.specs.declared.heard.Heard.{Heard}
 use Rattle.rank_walk.specs.declared.places.Places.{Places}
 use Rattle.rank_walk.specs.declared.told.Known.{Known}
 use Rattle.rank_walk.specs.declared.walker.Walker.{Walker}
-use Rattle.rank_walk.specs.Seats.{IsKnown, IsPlaced, Seat, has_child, is_home, knows_cell, moments_of, order_of, rules, side}
+use Rattle.rank_walk.specs.Seats.{IsKnown, IsPlaced, Seat, is_home, knows_cell, order_of, rules, side}
 use Rattle.rank_walk.specs.Slots.{SlotData, no_slot, slot_at, cell_at_place, cells_in, cells, flag_at, sum_at_place, value_at}
 use Rattle.rank_walk.specs.Starts.{knows_places}
 use Rattle.rank_walk.specs.Tables.{IsBorn, IsIn, IsOpened, IsSlot, IsTable, known_at, with_known}
@@ -86,7 +84,7 @@ module _ (z : Seat) (ss : List SlotData) (table : IsTable z ss) (i : ℕ) (low :
       by (inr n) = ap (λ (s : SlotData). s.order) (at_other j n)
 
   slot_known : IsSlot z (slot_at ss i) → IsSlot z (with_known (slot_at ss i) k)
-  slot_known h = record { shallow = h.shallow; member = h.member; known = ap Some known.moments; below = λ e. known.below; mine = h.mine; here = h.here; home = h.home; order = h.order }
+  slot_known h = record { shallow = h.shallow; standing = h.standing; known = ap Some known.moments; below = λ e. known.below; mine = h.mine; here = h.here; home = h.home; order = h.order }
 
   each_known : (j : ℕ) → j < length ts → IsSlot z (slot_at ts j)
   each_known j h = by (cases_eq j i)

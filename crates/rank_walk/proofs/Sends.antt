@@ -1,15 +1,15 @@
 -- The sums that a rank sends are those of the definition.
-use Rattle.std.proofs.Common.{◌≡◌, ℕ, zero, suc, ◌+◌, ◌<◌, ◌≤◌, eqb, Bool, true, false, cond, ◌&&◌, ◌||◌, not, List, [], ◌∷◌, ◌++◌, map, length, sum_by, get_or, ℤ, pos, ◌+ℤ◌, refl, ap, sym, ◌∙◌, arith, ◌⊎◌, inl, inr, subst}
-use Rattle.std.specs.List.{filter, flat_map, list_any, AllByRecursion, range_with_len}
-use Rattle.std.specs.List.Sorted.{IsNonDecreasingBy, IsPermutation}
-use Rattle.std.proofs.lemmas.Bool.{false≢true, and_parts, eqb-true, eq-eqb, cases_lt}
+use Rattle.std.proofs.Common.{◌≡◌, ℕ, zero, suc, ◌+◌, ◌<◌, ◌≤◌, eqb, Bool, true, false, cond, ◌&&◌, ◌||◌, List, [], ◌∷◌, ◌++◌, map, length, sum_by, ℤ, pos, ◌+ℤ◌, refl, ap, sym, ◌∙◌, arith, ◌⊎◌, inl, inr, subst}
+use Rattle.std.specs.List.{filter, flat_map, AllByRecursion, range_with_len}
+use Rattle.std.specs.List.Sorted.{IsPermutation}
+use Rattle.std.proofs.lemmas.Bool.{false≢true, and_parts, cases_lt}
 use Rattle.std.proofs.lemmas.Int.{ints}
 use Rattle.std.proofs.lemmas.List.{append-nil, map-append}
 use Rattle.std.proofs.lemmas.List.Elements.{filter-append}
 use Rattle.std.proofs.lemmas.List.Sums.{sum_by-cons}
 use Rattle.fixed_point.specs.declared.V3.{V3}
 use Rattle.fixed_point.specs.Vectors.{origin, plus}
-use Rattle.cell_space.specs.Cells.{CellData, root_cell, same_cell}
+use Rattle.cell_space.specs.Cells.{CellData, same_cell}
 use Rattle.cell_space.proofs.Cells.{same_cell-exact}
 use Rattle.nbody_model.specs.Covers.{orient, same_pair}
 use Rattle.nbody_model.specs.Evolve.{is_empty}
@@ -17,32 +17,30 @@ use Rattle.nbody_model.specs.Force.{pair_force, force_on}
 use Rattle.model_laws.proofs.Among.{Among}
 use Rattle.model_laws.proofs.Counts.{same_total}
 use Rattle.model_laws.proofs.Signed.{total_by}
-use Rattle.model_laws.proofs.Sums.{sum_by-flat_map, sum_by-zero}
+use Rattle.model_laws.proofs.Sums.{sum_by-flat_map}
 use Rattle.model_laws.proofs.Turned.{same_pair-exact}
 use Rattle.rank_laws.specs.Contents.{Summed as Sum, part_on, sums_sent, touched}
 use Rattle.rank_laws.specs.Homes.{home}
 use Rattle.rank_laws.specs.Machine.{Pair, Rank, cells_of, is_one, through, todo}
-use Rattle.rank_laws.specs.Whole.{IsInOrder, counted, counted_in, in_order, is_counted, opening, start_of}
+use Rattle.rank_laws.specs.Whole.{IsInOrder, counted, is_counted, start_of}
 use Rattle.rank_laws.proofs.Axes.{on, on_sum, on_each}
-use Rattle.rank_laws.proofs.Fairness.{in_order-same, in_order-times}
+use Rattle.rank_laws.proofs.Fairness.{in_order-times}
 use Rattle.rank_laws.proofs.Machine.{among_one}
 use Rattle.rank_laws.proofs.Order.{ascends}
-use Rattle.rank_laws.proofs.Waiting.{often_none, often_some, some_often}
-use Rattle.rank_walk.specs.declared.heard.Heard.{Heard}
+use Rattle.rank_laws.proofs.Waiting.{often_none, often_some}
 use Rattle.rank_walk.specs.declared.ranked.Ranked.{Ranked}
 use Rattle.rank_walk.specs.declared.sending.Summed.{Summed}
 use Rattle.rank_walk.specs.declared.walker.Walker.{Walker}
 use Rattle.rank_walk.specs.Asked.{AreDistinct, IsRanked, cells_at, ranked_at, times}
 use Rattle.rank_walk.specs.Seats.{IsPlaced, IsSeat, Seat, rules}
 use Rattle.rank_walk.specs.Sent.{IsSending, picks_at, sum_of_place}
-use Rattle.rank_walk.specs.Slots.{SlotData, slot_at, cell_at_place, cells_in, flag_at, if_at, sum_at_place, value_at}
+use Rattle.rank_walk.specs.Slots.{SlotData, cell_at_place, cells_in, flag_at, sum_at_place, value_at}
 use Rattle.rank_walk.specs.Tables.{IsTable}
 use Rattle.rank_walk.specs.Walked.{done_to, takes_part}
 use Rattle.rank_walk.specs.Walkers.{IsInRun, IsWalker, counted_of, weight_from}
 use Rattle.rank_walk.proofs.Afterwards.{one_list, placed}
 use Rattle.rank_walk.proofs.Few.{counted_all, counted_weight}
 use Rattle.rank_walk.proofs.Growth.{StandsAt, stands_at}
-use Rattle.rank_walk.proofs.Lists.{length_map}
 use Rattle.rank_walk.proofs.Unasked.{each_permuted, flag_here, flag_stands}
 
 -- ---- a rank that is through has counted all that it counts

@@ -1,5 +1,5 @@
 -- One step of a rank's walk over its list.
-use Rattle.std.proofs.Common.{◌≡◌, ◌≢◌, ℕ, zero, suc, ◌+◌, ◌*◌, ◌<◌, ◌≤◌, ◌^◌, ◌==◌, pos, ◌+ℤ◌, Bool, true, false, cond, ◌||◌, List, [], ◌∷◌, ◌++◌, map, length, reverse, sum_by, get_or, refl, ap, sym, ◌∙◌, arith, append_assoc, subst}
+use Rattle.std.proofs.Common.{◌≡◌, ◌≢◌, ℕ, ◌+◌, ◌*◌, ◌<◌, ◌^◌, ◌==◌, pos, ◌+ℤ◌, Bool, true, false, cond, ◌||◌, List, [], ◌∷◌, ◌++◌, map, length, reverse, sum_by, get_or, refl, ap, sym, ◌∙◌, arith, append_assoc, subst}
 use Rattle.std.specs.List.{filter, AllByRecursion}
 use Rattle.std.proofs.lemmas.List.{append-nil, map-append, reverse-append, reverse-reverse}
 use Rattle.std.proofs.lemmas.List.Sums.{sum_by-cons, sum_by-append}
@@ -8,16 +8,16 @@ use Rattle.std.proofs.lemmas.Bool.{false≢true}
 use Rattle.std.proofs.lemmas.Int.{ints}
 use Rattle.fixed_point.specs.declared.V3.{V3}
 use Rattle.fixed_point.specs.Vectors.{origin, plus, IsAtMost}
-use Rattle.cell_space.specs.Cells.{CellData, root_cell, same_cell}
+use Rattle.cell_space.specs.Cells.{root_cell, same_cell}
 use Rattle.cell_space.proofs.Cells.{same_cell-exact}
 use Rattle.nbody_model.specs.Covers.{orient}
 use Rattle.nbody_model.specs.Force.{pair_force}
 use Rattle.nbody_model.specs.Tables.{Gravity}
 use Rattle.model_laws.proofs.Among.{Among, each-append}
-use Rattle.rank_laws.specs.Trees.{IsFalling, all_from, next_known, worked, waiting}
+use Rattle.rank_laws.specs.Trees.{IsFalling, next_known, worked, waiting}
 use Rattle.rank_laws.specs.Machine.{Pair, knows_both}
 use Rattle.rank_laws.specs.Whole.{depth_of, next_of, rules_of, counted_in, is_counted}
-use Rattle.rank_laws.proofs.Trees.{tree_step, tree_sum}
+use Rattle.rank_laws.proofs.Trees.{tree_step}
 use Rattle.rank_laws.proofs.Fairness.{next_falls}
 use Rattle.rank_walk.specs.declared.heard.Heard.{Heard}
 use Rattle.rank_walk.specs.declared.places.Places.{Places}
@@ -26,12 +26,13 @@ use Rattle.rank_walk.specs.declared.verdict.Verdict.TheVariants as verdicts
 use Rattle.rank_walk.specs.Seats.{Side}
 use Rattle.rank_walk.specs.Slots.{SlotData, no_slot, slot_at, cell_at_place, cells_in, cells, value_at, flag_at, sum_at_place, moved, flagged, upper, lower, judge, AreFit}
 use Rattle.rank_walk.specs.Tables.{IsIn, IsGrown, IsPushed}
-use Rattle.rank_walk.specs.Walked.{AreListed, IsAt, IsHeard, IsListed, IsNearer, IsWorkedOff, MayWork, Means, Plan, all_counted, all_waiting, all_worked, done_to, knows_pair, takes_part, work}
+use Rattle.rank_walk.specs.Walked.{AreListed, IsAt, IsListed, IsNearer, IsWorkedOff, MayWork, Means, Plan, all_counted, all_waiting, all_worked, done_to, knows_pair, takes_part, work}
 use Rattle.rank_walk.proofs.Given.{cells_kept, listed_next, places_differ}
 use Rattle.rank_walk.proofs.Growth.{asked_grown, heard_grown, heard_same, length_append, listed_grown, small_grown, touched_grown, values_grown}
 use Rattle.rank_walk.proofs.Judged.{judge_fit, judge_means}
 use Rattle.rank_walk.proofs.Lists.{at_map, length_map}
 use Rattle.rank_walk.proofs.Opened.{same_grown}
+use Rattle.rank_walk.proofs.Work.{work_next}
 use Rattle.rank_walk.proofs.Values.{flag_touched, flagged_long, moved_long, small_moved, value_moved}
 
 each-front : {X : Type 0} (P : X → Type 0) (xs ys : List X) → AllByRecursion P (xs ++ ys) → AllByRecursion P xs
@@ -53,6 +54,18 @@ map_reverse f (x ∷ xs) = ap (map f) (reverse-append (x ∷ []) xs) ∙ map-app
 reverse-sum : {X : Type 0} (f : X → ℕ) (xs : List X) → sum_by f (reverse xs) ≡ sum_by f xs
 reverse-sum f [] = refl
 reverse-sum f (x ∷ xs) = omega (arith, ap (sum_by f) (reverse-append (x ∷ []) xs), sum_by-append f (reverse xs) (x ∷ []), sum_by-cons f x xs, reverse-sum f xs)
+
+work_more : (xs ys : List Pair) → work (xs ++ ys) ≡ work xs + work ys
+unfolding work
+work_more xs ys = sum_by-append (λ x. 128 ^ depth_of x) xs ys
+
+work_one : (x : Pair) → work (x ∷ []) ≡ 128 ^ depth_of x
+unfolding work
+work_one x = omega (arith, sum_by-cons (λ x. 128 ^ depth_of x) x [])
+
+work_turned : (xs : List Pair) → work (reverse xs) ≡ work xs
+unfolding work
+work_turned xs = reverse-sum (λ x. 128 ^ depth_of x) xs
 
 module _ (z : Side) where
   abbrev next : Pair → List Pair
@@ -98,18 +111,6 @@ module _ (z : Side) where
       by true = refl
       by false = refl
 
-  work_more : (xs ys : List Pair) → work z.seat (xs ++ ys) ≡ work z.seat xs + work z.seat ys
-  unfolding work
-  work_more xs ys = sum_by-append (λ x. sum_by (λ y. 1) (all_from depth_of (next_of z.seat.whole z.seat.rank) x)) xs ys
-
-  work_one : (x : Pair) → work z.seat (x ∷ []) ≡ 1 + work z.seat (next_of z.seat.whole z.seat.rank x)
-  unfolding work
-  work_one x = omega (arith, tree_sum depth_of (λ y. y ∷ []) (next_of z.seat.whole z.seat.rank) (next_falls z.seat.whole z.seat.rank) (λ y. 1) x)
-
-  work_turned : (xs : List Pair) → work z.seat (reverse xs) ≡ work z.seat xs
-  unfolding work
-  work_turned xs = reverse-sum (λ x. sum_by (λ y. 1) (all_from depth_of (next_of z.seat.whole z.seat.rank) x)) xs
-
 module _ (z : Side) (p : Plan) (h : Heard) (rest wait : List Places) (x : Places) (count : ℕ) (was : IsAt z p h (rest ++ x ∷ []) wait count) where
   abbrev ss : List SlotData
   ss = h.slots.items
@@ -129,8 +130,8 @@ module _ (z : Side) (p : Plan) (h : Heard) (rest wait : List Places) (x : Places
   popped : map (cells ss) (reverse (rest ++ x ∷ [])) ≡ cells ss x ∷ map (cells ss) (reverse rest)
   popped = ap (map (cells ss)) (reverse-append rest (x ∷ []))
 
-  work_popped : work z.seat (map (cells ss) (rest ++ x ∷ [])) ≡ work z.seat (map (cells ss) rest) + (1 + work z.seat (next_of z.seat.whole z.seat.rank (cells ss x)))
-  work_popped = ap (work z.seat) (map-append (cells ss) rest (x ∷ [])) ∙ omega (arith, work_more z (map (cells ss) rest) (cells ss x ∷ []), work_one z (cells ss x))
+  work_popped : work (map (cells ss) (rest ++ x ∷ [])) ≡ work (map (cells ss) rest) + 128 ^ depth_of (cells ss x)
+  work_popped = ap work (map-append (cells ss) rest (x ∷ [])) ∙ omega (arith, work_more (map (cells ss) rest) (cells ss x ∷ []), work_one (cells ss x))
 
   -- it waits
   pub at_waits : (more : List Places) → more ≡ wait ++ x ∷ [] → knows_pair z (cells h.slots.items x) ≡ false → IsNearer z p h (rest ++ x ∷ []) h rest more count
@@ -154,7 +155,7 @@ module _ (z : Side) (p : Plan) (h : Heard) (rest wait : List Places) (x : Places
       small = was.small;
       few = was.few;
     };
-    less = omega (arith, work_popped);
+    less = omega (arith, work_popped, work_next z.seat.whole z.seat.rank (cells ss x));
   }
 
   -- the known pair gives what was pushed
@@ -182,11 +183,18 @@ module _ (z : Side) (p : Plan) (h : Heard) (rest wait : List Places) (x : Places
       within = subst (AllByRecursion (IsIn ts)) (sym pushed.stack) (each-append (IsIn ts) rest (reverse pushed.given) (listed_grown z h k was.heard grown rest rest_listed).within (each-reverse (IsIn ts) pushed.given pushed.within));
       listed = subst (AllByRecursion IsListed) (sym stack_cells)
           (each-append IsListed (map (cells ss) rest) (reverse (next_of z.seat.whole z.seat.rank (cells ss x))) rest_listed.listed
-          (each-reverse IsListed (next_of z.seat.whole z.seat.rank (cells ss x)) (listed_next z.seat (cells ss x) (was.heard.table.each x.a within.first).member (was.heard.table.each x.b within.second).member listed)));
+          (each-reverse IsListed (next_of z.seat.whole z.seat.rank (cells ss x)) (listed_next z.seat was.heard.whole (cells ss x) (was.heard.table.each x.a within.first).standing (was.heard.table.each x.b within.second).standing listed)));
     }
 
-    work_less : work z.seat (map (cells k.slots.items) new) < work z.seat (map (cells h.slots.items) (rest ++ x ∷ []))
-    work_less = omega (arith, ap (work z.seat) stack_cells, work_more z (map (cells ss) rest) (reverse (next_of z.seat.whole z.seat.rank (cells ss x))), work_turned z (next_of z.seat.whole z.seat.rank (cells ss x)), work_popped)
+    work_less : work (map (cells k.slots.items) new) < work (map (cells h.slots.items) (rest ++ x ∷ []))
+    work_less = omega (
+      arith,
+      ap work stack_cells,
+      work_more (map (cells ss) rest) (reverse (next_of z.seat.whole z.seat.rank (cells ss x))),
+      work_turned (next_of z.seat.whole z.seat.rank (cells ss x)),
+      work_next z.seat.whole z.seat.rank (cells ss x),
+      work_popped,
+    )
 
     -- it gives others, or nothing, and isn't counted
     pub at_given : is_counted z.seat.whole z.seat.rank (cells h.slots.items x) ≡ false → IsNearer z p h (rest ++ x ∷ []) k new wait count
@@ -259,7 +267,7 @@ module _ (z : Side) (p : Plan) (h : Heard) (rest wait : List Places) (x : Places
             (subst (λ w. IsAtMost (count * 2 ^ 86 + 2 ^ 86) (sum_at_place w l)) (sym sums) (small_moved (count * 2 ^ 86) h.sums.items i j f (omega (arith, low, was.heard.long)) (omega (arith, high, was.heard.long)) was.small small l));
         few = was.few;
       };
-      less = subst (λ t. work z.seat (map (cells t) rest) < work z.seat (map (cells ss) (rest ++ x ∷ []))) (sym same) (work_less h same_h rest nothing known);
+      less = subst (λ t. work (map (cells t) rest) < work (map (cells ss) (rest ++ x ∷ []))) (sym same) (work_less h same_h rest nothing known);
     }
 
 -- nothing is pushed

@@ -1,6 +1,6 @@
 -- The cells that a rank asks for, place by place.
-use Rattle.std.proofs.Common.{Less, Equal, Greater, ◌≡◌, ◌≢◌, ℕ, zero, suc, ◌+◌, ◌<◌, ◌≤◌, Bool, true, false, cond, eqb, ◌&&◌, ◌||◌, not, List, [], ◌∷◌, ◌++◌, map, set, take, length, get_or, sum_by, refl, ap, sym, ◌∙◌, arith, ◌⊎◌, inl, inr, subst}
-use Rattle.std.specs.Prelude.{Option, Some, None, is_some}
+use Rattle.std.proofs.Common.{Less, Equal, Greater, ◌≡◌, ℕ, zero, suc, ◌+◌, ◌<◌, ◌≤◌, Bool, true, false, cond, eqb, ◌&&◌, ◌||◌, not, List, [], ◌∷◌, ◌++◌, map, set, take, length, get_or, refl, ap, sym, ◌∙◌, arith, ◌⊎◌, inl, inr, subst}
+use Rattle.std.specs.Prelude.{Option, Some, is_some}
 use Rattle.std.specs.Ordering.{is_eq, nat_cmp}
 use Rattle.std.specs.List.Sorted.{IsPermutation}
 use Rattle.std.proofs.lemmas.List.Sorted.{All-permutation}
@@ -11,14 +11,14 @@ use Rattle.std.proofs.lemmas.Bool.{false≢true, cases_lt, lt-ltb, le-ltb, eqb-t
 use Rattle.std.proofs.lemmas.List.{map-append, length-set}
 use Rattle.std.proofs.lemmas.List.Concat.{flat_map-append}
 use Rattle.std.proofs.lemmas.List.Sums.{sum_by-cons, sum_by-append}
-use Rattle.cell_space.specs.Cells.{CellData, root_cell, same_cell}
+use Rattle.cell_space.specs.Cells.{CellData, same_cell}
 use Rattle.cell_space.proofs.Cells.{same_cell-exact}
 use Rattle.model_laws.proofs.Among.{any-append, each-append}
 use Rattle.rank_laws.specs.Machine.{cells_of, is_one}
 use Rattle.rank_walk.specs.declared.places.Places.{Places}
 use Rattle.rank_walk.specs.declared.ranked.Ranked.{Ranked}
 use Rattle.rank_walk.specs.Asked.{AreDistinct, IsAsking, IsRanked, asks_at, cells_at, known_cell, noted, on_list, ranked_at, times}
-use Rattle.rank_walk.specs.Slots.{SlotData, no_slot, slot_at, cell_at_place, cells_in, cells, flag_at}
+use Rattle.rank_walk.specs.Slots.{SlotData, no_slot, cell_at_place, cells_in, cells, flag_at}
 use Rattle.rank_walk.specs.Tables.{IsIn, known_at}
 use Rattle.rank_walk.proofs.Lists.{at_map, each-at, length_map}
 use Rattle.rank_walk.proofs.Growth.{StandsAt, stands_at}

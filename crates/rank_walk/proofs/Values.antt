@@ -13,7 +13,7 @@ use Rattle.rank_laws.proofs.Axes.{Axis, OnX, OnY, OnZ, on, on_none, on_sum, on_e
 use Rattle.rank_walk.specs.Slots.{if_at, value_at, sum_at_place, moved, flag_at, flagged}
 use Rattle.rank_walk.specs.Seats.{Seat}
 use Rattle.rank_laws.specs.Machine.{cells_of, is_one}
-use Rattle.std.specs.List.{flat_map, list_any}
+use Rattle.std.specs.List.{flat_map}
 use Rattle.std.proofs.lemmas.List.Concat.{flat_map-append}
 use Rattle.model_laws.proofs.Among.{any-append}
 use Rattle.rank_walk.specs.Walked.{done_to, takes_part}

@@ -8,3 +8,4 @@ pub mod Starts
 pub mod Walkers
 pub mod Sent
 pub mod Divided
+pub mod Sources

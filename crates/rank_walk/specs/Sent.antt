@@ -1,6 +1,6 @@
 -- The sums that a rank sends to the home of cells, by their places.
-use Rattle.std.specs.Prelude.{◌≡◌, ◌<◌, ℕ, ◌==◌, Bool, false, ◌&&◌, List, length, map, filter, slice_index_or}
-use Rattle.std.specs.List.{AllByRecursion, range_with_len}
+use Rattle.std.specs.Prelude.{◌≡◌, ℕ, ◌==◌, Bool, false, ◌&&◌, List, length, map, filter, slice_index_or}
+use Rattle.std.specs.List.{range_with_len}
 use Rattle.std.specs.List.Sorted.{IsNonDecreasingBy, IsPermutation}
 use Rattle.fixed_point.specs.declared.V3.{V3}
 use Rattle.rank_walk.specs.declared.ranked.Ranked.{Ranked}

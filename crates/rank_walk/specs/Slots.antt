@@ -1,5 +1,5 @@
 -- What a rank keeps of the cells that it has heard of, by their places, and pairs of places.
-use Rattle.std.specs.Prelude.{◌≡◌, ◌≤◌, ⊤, ◌^◌, ℕ, ◌+◌, ◌-◌, ◌==◌, Bool, true, false, ◌&&◌, ◌||◌, List, [], ◌∷◌, ◌++◌, map, filter, reverse, slice_index_or, slice_set, Option, Some, None, if◌then◌else◌}
+use Rattle.std.specs.Prelude.{◌≡◌, ◌≤◌, ◌<◌, ⊤, pos, ◌^◌, ℕ, ◌+◌, ◌-◌, ◌==◌, Bool, true, false, ◌&&◌, ◌||◌, List, [], ◌∷◌, ◌++◌, map, filter, reverse, slice_index_or, slice_set, Option, Some, None, if◌then◌else◌}
 use Rattle.std.specs.List.{flat_map, range_with_len}
 use Rattle.fixed_point.specs.declared.V3.{V3}
 use Rattle.fixed_point.specs.Vectors.{plus, origin, negative}
@@ -12,6 +12,26 @@ use Rattle.rank_laws.specs.Machine.{Pair}
 use Rattle.rank_walk.specs.declared.places.Places.{Places}
 use Rattle.rank_walk.specs.declared.verdict.Verdict.{Verdict}
 use Rattle.rank_walk.specs.declared.verdict.Verdict.TheVariants as verdicts
+
+-- the moments of the root where there are no bodies
+abbrev pub empty_moments : MomentsData
+empty_moments = record {
+  cell = root_cell;
+  leaf = true;
+  mass = 0;
+  centre = record { x = 0; y = 0; z = 0 };
+  quad = record { xx = pos 0; yy = pos 0; zz = pos 0; xy = pos 0; xz = pos 0; yz = pos 0 };
+  eps = 0;
+}
+
+-- the moments that are held of a cell: none are held of the root where there are no bodies
+abbrev pub held : Option MomentsData → MomentsData
+held None = empty_moments
+held (Some m) = m
+
+abbrev pub or_zero : Option ℕ → ℕ
+or_zero None = 0
+or_zero (Some n) = n
 
 -- a cell; its moments, where it is known; which of its children have members, a bit each; the places of its children,
 -- none before it is opened; whether the rank is in its span, and whether the rank is its home; its home; its number in the
@@ -89,9 +109,9 @@ judge_of g together (Some a) at_a (Some b) at_b = judge_known g together a at_a 
 unfoldable pub judge : Gravity → List SlotData → Places → Verdict
 judge g ss x = judge_of g (x.a == x.b) (slot_at ss x.a).moments (slot_at ss x.a).here (slot_at ss x.b).moments (slot_at ss x.b).here
 
--- two nodes of which a force may be asked, in either order
+-- two nodes with members of which a force may be asked, in either order
 abbrev pub AreFit : Gravity → Option MomentsData → Option MomentsData → Type 0
-AreFit g (Some a) (Some b) = (a.mass + b.mass ≤ 2 ^ 32) × (is_final g.setup a b ≡ is_final g.setup b a)
+AreFit g (Some a) (Some b) = (a.mass + b.mass ≤ 2 ^ 32) × (is_final g.setup a b ≡ is_final g.setup b a) × (0 < a.mass) × (0 < b.mass)
 AreFit g None b = ⊤
 AreFit g (Some a) None = ⊤
 

@@ -9,7 +9,7 @@ use Rattle.rank_walk.specs.Slots.{SlotData}
 use Rattle.rank_walk.specs.Tables.{IsFresh, known_at}
 
 -- the root alone, with nothing at it
-pub record BeginsWith (z : Seat) (h : Heard) : Type 0 where
+pub record BeginsWith (h : Heard) (z : Seat) : Type 0 where
   pub root : SlotData
   pub fresh : IsFresh z root_cell root
   pub slots : h.slots.items ≡ root ∷ []

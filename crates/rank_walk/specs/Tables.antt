@@ -1,20 +1,19 @@
 -- How the places of a rank stand for the cells of the definitions.
 use Rattle.std.specs.Prelude.{◌≡◌, ◌≢◌, ◌<◌, ◌≤◌, ℕ, ◌+◌, ◌-◌, ◌^◌, Bool, true, false, List, ◌++◌, map, filter, reverse, length, Option, Some, None, is_some, if◌then◌else◌}
 use Rattle.std.specs.List.{AllByRecursion, range_with_len}
-use Rattle.fixed_point.specs.declared.V3.{V3}
 use Rattle.fixed_point.specs.Vectors.{origin}
 use Rattle.cell_space.specs.Cells.{CellData, root_cell, child, below}
 use Rattle.nbody_model.specs.Moments.{MomentsData}
 use Rattle.nbody_model.specs.Covers.{leaf, final}
-use Rattle.nbody_model.specs.Walks.{has_member, kids, down}
+use Rattle.nbody_model.specs.Walks.{kids, down}
 use Rattle.rank_laws.specs.Homes.{home, in_span}
 use Rattle.rank_laws.specs.Machine.{Pair}
 use Rattle.rank_laws.specs.Whole.{opening, next_of}
 use Rattle.rank_walk.specs.declared.places.Places.{Places}
 use Rattle.rank_walk.specs.declared.heard.Heard.{Heard}
 use Rattle.rank_walk.specs.declared.told.Known.{Known}
-use Rattle.rank_walk.specs.Seats.{Seat, Side, bit, has_child, is_home, knows_cell, moments_of, order_of}
-use Rattle.rank_walk.specs.Slots.{SlotData, slot_at, cell_at_place, cells_in, cells}
+use Rattle.rank_walk.specs.Seats.{Seat, Side, Stands, TellsBelow, has_child, is_home, knows_cell, moments_of, order_of}
+use Rattle.rank_walk.specs.Slots.{SlotData, held, slot_at, cell_at_place, cells_in, cells}
 
 -- whether a known cell is a leaf
 abbrev pub leaf_of : Option MomentsData → Bool
@@ -25,7 +24,7 @@ abbrev pub with_children : SlotData → ℕ → ℕ → SlotData
 with_children s first number = record s { first = first; number = number }
 
 abbrev pub with_known : SlotData → Known → SlotData
-with_known s k = record s { moments = Some k.moments; below = k.below }
+with_known s k = record s { moments = Some (held k.moments); below = k.below }
 
 -- the cell at a place is known
 abbrev pub known_at : List SlotData → ℕ → Bool
@@ -34,9 +33,9 @@ known_at ss i = is_some (slot_at ss i).moments
 -- what stands in a slot is true of its cell
 pub record IsSlot (z : Seat) (s : SlotData) : Type 0 where
   pub shallow : s.cell.level ≤ 32
-  pub member : has_member (opening z.whole) s.cell ≡ true
+  pub standing : Stands s.cell z
   pub known : s.moments ≡ (if is_some s.moments then Some (moments_of z s.cell) else None)
-  pub below : is_some s.moments ≡ true → (k : ℕ) → k < 8 → bit s.below k ≡ has_child z s.cell k
+  pub below : is_some s.moments ≡ true → TellsBelow s.cell s.below z
   pub mine : s.mine ≡ in_span z.whole.keys z.rank s.cell
   pub here : s.here ≡ is_home z s.cell
   pub home : s.home ≡ home z.whole.keys s.cell
@@ -109,6 +108,14 @@ pub record IsMaking (z : Seat) (c : CellData) (start : Heard) (k : ℕ) (h : Hea
   pub cells : cells_in made ++ map (child c) (filter (has_child z c) (below k)) ≡ kids (opening z.whole) c
   pub longer : IsLonger (cells_in made) start h
 
+-- of the children from the last down to k, k is made too
+abbrev pub MakesOne : CellData → ℕ → Heard → Heard → Heard → Seat → Type 0
+MakesOne c k start h l z = has_child z c k ≡ true → IsMaking z c start (k + 1) h → IsMaking z c start k l
+
+-- all children are made
+abbrev pub MakesAll : CellData → ℕ → Heard → Heard → Seat → Type 0
+MakesAll c n h l z = TellsBelow c n z → IsMaking z c h 0 l
+
 -- the places from one to another stand for what a cell is replaced by
 pub record IsDown (z : Seat) (ss : List SlotData) (c : CellData) (from to : ℕ) : Type 0 where
   pub up : from ≤ to
@@ -121,3 +128,34 @@ pub record IsPushed (z : Seat) (ss : List SlotData) (x : Pair) (old new : List P
   pub stack : new ≡ old ++ reverse given
   pub within : AllByRecursion (IsIn ss) given
   pub cells : map (cells ss) given ≡ next_of z.whole z.rank x
+
+-- ---- opening a cell, and a pair
+
+-- a cell is no leaf
+pub record MayOpen (h : Heard) (i : ℕ) (z : Seat) : Type 0 where
+  pub table : IsTable z h.slots.items
+  pub parted : leaf (opening z.whole) (cell_at_place h.slots.items i) ≡ false
+
+-- what it is replaced by stands from one place to another
+pub record IsReplaced (h : Heard) (i : ℕ) (k : Heard) (from to : ℕ) (z : Seat) : Type 0 where
+  pub grown : IsGrown z h k
+  pub down : IsDown z k.slots.items (cell_at_place h.slots.items i) from to
+
+abbrev pub Opens : Heard → ℕ → Heard → ℕ → ℕ → Seat → Type 0
+Opens h i k from to z = MayOpen h i z → IsReplaced h i k from to z
+
+abbrev pub GoesDown : Heard → ℕ → Heard → ℕ → ℕ → Seat → Type 0
+GoesDown h i k from to z = IsTable z h.slots.items → IsReplaced h i k from to z
+
+-- a pair gives others
+pub record MayOpenPair (h : Heard) (x : Places) (z : Seat) : Type 0 where
+  pub table : IsTable z h.slots.items
+  pub gives : IsOpen z h.slots.items x
+
+-- these are on the stack
+pub record IsOpenedPair (h : Heard) (x : Places) (stack : List Places) (k : Heard) (new : List Places) (z : Seat) : Type 0 where
+  pub grown : IsGrown z h k
+  pub pushed : IsPushed z k.slots.items (cells h.slots.items x) stack new
+
+abbrev pub OpensPair : Heard → Places → List Places → Heard → List Places → Seat → Type 0
+OpensPair h x stack k new z = MayOpenPair h x z → IsOpenedPair h x stack k new z

@@ -1,12 +1,12 @@
 -- Where a rank's walk over its list stands.
-use Rattle.std.specs.Prelude.{⊤, ◌≡◌, ◌≢◌, true, false, ◌<◌, ◌≤◌, ℕ, ◌+◌, ◌*◌, ◌^◌, Bool, ◌||◌, List, [], ◌++◌, map, reverse, length, sum_by}
+use Rattle.std.specs.Prelude.{⊤, ◌≡◌, ◌≢◌, true, false, ◌<◌, ◌≤◌, ℕ, ◌+◌, ◌*◌, ◌^◌, Bool, ◌||◌, List, [], ◌++◌, map, reverse, length, sum_by, ◌∷◌, []}
 use Rattle.std.specs.List.{flat_map, AllByRecursion}
 use Rattle.fixed_point.specs.declared.V3.{V3}
 use Rattle.fixed_point.specs.Vectors.{plus, sum_of, IsAtMost}
 use Rattle.cell_space.specs.Cells.{CellData, AreDisjoint}
 use Rattle.nbody_model.specs.Covers.{orient}
 use Rattle.nbody_model.specs.Force.{pair_force, force_on}
-use Rattle.rank_laws.specs.Trees.{all_from, worked, waiting}
+use Rattle.rank_laws.specs.Trees.{worked, waiting}
 use Rattle.rank_laws.specs.Machine.{Pair, cells_of, is_one, knows_both}
 use Rattle.rank_laws.specs.Whole.{IsWhole, next_of, rules_of, depth_of, counted_in, is_counted}
 use Rattle.rank_walk.specs.declared.places.Places.{Places}
@@ -15,7 +15,7 @@ use Rattle.rank_walk.specs.declared.verdict.Verdict.{Verdict}
 use Rattle.rank_walk.specs.declared.verdict.Verdict.TheVariants as verdicts
 use Rattle.rank_walk.specs.Seats.{Seat, Side, side}
 use Rattle.rank_walk.specs.Slots.{SlotData, cell_at_place, cells_in, cells, value_at, sum_at_place, flag_at, upper, lower}
-use Rattle.rank_walk.specs.Tables.{IsTable, IsIn, IsOpen, KnowsSlots, known_at}
+use Rattle.rank_walk.specs.Tables.{IsTable, IsIn, IsOpen, KnowsSlots}
 
 -- a counted force is small
 abbrev pub IsSmall : Verdict → Type 0
@@ -38,9 +38,9 @@ all_waiting z xs = flat_map (waiting depth_of (next_of z.seat.whole z.seat.rank)
 abbrev pub all_counted : Side → List Pair → List Pair
 all_counted z xs = counted_in z.seat.whole z.seat.rank (all_worked z xs)
 
--- the steps that are left: how many pairs are reached from those on the stack
-unfoldable pub work : Seat → List Pair → ℕ
-work z xs = sum_by (λ x. sum_by (λ y. 1) (all_from depth_of (next_of z.whole z.rank) x)) xs
+-- the most steps that are left: a pair gives fewer than 128 others, and they lie less deep
+unfoldable pub work : List Pair → ℕ
+work xs = sum_by (λ x. 128 ^ depth_of x) xs
 
 -- a cell with itself, or two that have nothing in common
 pub data IsListed (x : Pair) : Type 0 where
@@ -113,14 +113,18 @@ pub record IsAt (z : Side) (p : Plan) (h : Heard) (stack wait : List Places) (co
 -- a step was made: less is left
 pub record IsNearer (z : Side) (p : Plan) (old : Heard) (before : List Places) (new : Heard) (stack wait : List Places) (count : ℕ) : Type 0 where
   pub at : IsAt z p new stack wait count
-  pub less : work z.seat (map (cells new.slots.items) stack) < work z.seat (map (cells old.slots.items) before)
+  pub less : work (map (cells new.slots.items) stack) < work (map (cells old.slots.items) before)
 
 -- a step may be made, for some rank and plan; whatever they are, it was made
-abbrev pub MayStep : Seat → Heard → List Places → List Places → ℕ → Type 0
-MayStep z h stack wait count = (replies : List CellData) × ((p : Plan) × IsAt (side z replies) p h stack wait count)
+abbrev pub MayStep : Heard → List Places → List Places → ℕ → Seat → Type 0
+MayStep h stack wait count z = (replies : List CellData) × ((p : Plan) × IsAt (side z replies) p h stack wait count)
 
-abbrev pub IsStep : Seat → Heard → List Places → List Places → ℕ → Heard → List Places → List Places → ℕ → Type 0
-IsStep z h stack wait count k rest late many = (replies : List CellData) (p : Plan) → IsAt (side z replies) p h stack wait count → IsNearer (side z replies) p h stack k rest late many
+abbrev pub IsStep : Heard → List Places → List Places → ℕ → Heard → List Places → List Places → ℕ → Seat → Type 0
+IsStep h stack wait count k rest late many z = (replies : List CellData) (p : Plan) → IsAt (side z replies) p h stack wait count → IsNearer (side z replies) p h stack k rest late many
+
+-- the same with this pair on top of the stack
+abbrev pub IsStepOf : Heard → List Places → Places → List Places → ℕ → Heard → List Places → List Places → ℕ → Seat → Type 0
+IsStepOf h stack x wait count k rest late many = IsStep h (stack ++ x ∷ []) wait count k rest late many
 
 -- what is asked of a list that is to be worked off
 pub record MayWork (z : Side) (h : Heard) (list : List Places) (count : ℕ) : Type 0 where
@@ -144,8 +148,8 @@ pub record IsWorkedOff (z : Side) (h : Heard) (list : List Places) (before : ℕ
   pub small : (i : ℕ) → IsAtMost (after * 2 ^ 86) (sum_at_place k.sums.items i)
 
 -- a list may be worked off, for some rank; whatever it is, it was
-abbrev pub MayWalk : Seat → Heard → List Places → ℕ → Type 0
-MayWalk z h list count = (replies : List CellData) × MayWork (side z replies) h list count
+abbrev pub MayWalk : Heard → List Places → ℕ → Seat → Type 0
+MayWalk h list count z = (replies : List CellData) × MayWork (side z replies) h list count
 
-abbrev pub IsWalk : Seat → Heard → List Places → ℕ → Heard → List Places → ℕ → Type 0
-IsWalk z h list before k wait after = (replies : List CellData) → MayWork (side z replies) h list before → IsWorkedOff (side z replies) h list before k wait after
+abbrev pub IsWalk : Heard → List Places → ℕ → Heard → List Places → ℕ → Seat → Type 0
+IsWalk h list before k wait after z = (replies : List CellData) → MayWork (side z replies) h list before → IsWorkedOff (side z replies) h list before k wait after

@@ -1,16 +1,15 @@
 -- A rank of the machine, as the code keeps it.
-use Rattle.std.specs.Prelude.{◌≡◌, ◌<◌, ◌≤◌, ℕ, ◌+◌, ◌*◌, ◌^◌, Bool, true, false, not, ◌||◌, List, [], ◌∷◌, map, length, sum_by, slice_index_or, Some}
+use Rattle.std.specs.Prelude.{◌≡◌, ◌<◌, ℕ, ◌+◌, ◌*◌, ◌^◌, Bool, true, false, not, ◌||◌, List, [], ◌∷◌, map, length, sum_by, slice_index_or, Some}
 use Rattle.std.specs.List.{list_any}
 use Rattle.std.specs.BTreeMap.{get}
 use Rattle.std.specs.Ordering.{nat_cmp}
 use Rattle.fixed_point.specs.Vectors.{IsAtMost}
-use Rattle.cell_space.specs.Cells.{CellData, root_cell}
-use Rattle.nbody_model.specs.Walks.{has_member}
+use Rattle.cell_space.specs.Cells.{CellData}
 use Rattle.rank_laws.specs.Trees.{all_from}
 use Rattle.rank_laws.specs.Machine.{Pair, Rank, Walk, after, fresh, is_one, knows_both, through, todo}
 use Rattle.rank_laws.specs.Told.{size_by}
 use Rattle.rank_laws.specs.Contents.{Summed as Sum}
-use Rattle.rank_laws.specs.Whole.{counted_in, depth_of, next_of, opening, start_of}
+use Rattle.rank_laws.specs.Whole.{counted_in, depth_of, next_of, start_of}
 use Rattle.rank_walk.specs.declared.sending.Summed.{Summed}
 use Rattle.rank_walk.specs.declared.told.Known.{Known}
 use Rattle.rank_walk.specs.declared.walker.Walker.{Walker}
@@ -25,10 +24,6 @@ weight_from z g xs = sum_by (λ x. sum_by g (all_from depth_of (next_of z.whole 
 -- the interactions that a rank has counted
 abbrev pub counted_of : Seat → Rank → List Pair
 counted_of z s = counted_in z.whole z.rank s.done
-
--- the root has members
-abbrev pub HasBodies : Seat → Type 0
-HasBodies z = has_member (opening z.whole) root_cell ≡ true
 
 -- a walk: the rank after it, how many interactions it counts, and the cells that it asks for, in order
 abbrev pub walked_on : Seat → Rank → Rank
@@ -92,20 +87,24 @@ pub record Awaits (z : Seat) (s : Rank) (w : Walker) (c : CellData) (first : ℕ
   pub number : first ≡ z.whole.keys.first c
   pub known : IsKnown z c k
 
+-- it is kept for a rank before its first walk
+abbrev pub IsKeptFirst : Walker → Seat → Type 0
+IsKeptFirst w z = (s : Rank) → IsUnwalked s → IsWalker z s w
+
 -- whatever rank a walker is kept for, it is kept for it after a walk; the walk counts so many interactions, and asks for these
 -- cells
-abbrev pub WalksOn : Seat → Walker → Walker → Type 0
-WalksOn z v w = (s : Rank) → IsWalker z s v → IsWalker z (walked_on z s) w
+abbrev pub WalksOn : Walker → Walker → Seat → Type 0
+WalksOn v w z = (s : Rank) → IsWalker z s v → IsWalker z (walked_on z s) w
 
-abbrev pub CountsNow : Seat → Walker → ℕ → Type 0
-CountsNow z w n = (s : Rank) → IsWalker z s w → n ≡ walked_size z s
+abbrev pub CountsNow : Walker → ℕ → Seat → Type 0
+CountsNow w n z = (s : Rank) → IsWalker z s w → n ≡ walked_size z s
 
-abbrev pub AsksNow : Seat → Walker → List CellData → Type 0
-AsksNow z w cs = (s : Rank) → IsWalker z s w → cs ≡ asks_of z s
+abbrev pub AsksNow : Walker → List CellData → Seat → Type 0
+AsksNow w cs z = (s : Rank) → IsWalker z s w → cs ≡ asks_of z s
 
 -- a walker is kept for some rank
-abbrev pub IsKeptFor : Seat → Walker → Type 0
-IsKeptFor z w = (s : Rank) × IsWalker z s w
+abbrev pub IsKeptFor : Walker → Seat → Type 0
+IsKeptFor w z = (s : Rank) × IsWalker z s w
 
 -- a rank that has walked, with no pair left
 pub record IsThrough (z : Seat) (s : Rank) (w : Walker) : Type 0 where

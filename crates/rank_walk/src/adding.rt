@@ -3,7 +3,7 @@ ghost use Rattle.std.specs.Prelude.{◌≡◌, ◌≢◌, ◌<◌, ◌+◌, ◌*
 ghost use Rattle.fixed_point.specs.Vectors.{IsAtMost};
 ghost use Rattle.rank_walk.specs.Slots.{flagged, lower, moved, sum_at_place, upper};
 
-use crate::Places;
+use crate::places::Places;
 use fixed_point::V3;
 
 /// Adds a force to one place and its negative to another.

@@ -4,7 +4,7 @@ ghost use Rattle.std.specs.List.{AllByRecursion};
 ghost use Rattle.rank_walk.specs.Asked.{AreDistinct, IsAskedFor, IsAsking, asks_at, ranked_at};
 ghost use Rattle.rank_walk.specs.Tables.{IsIn};
 
-use crate::Places;
+use crate::places::Places;
 use crate::ranked::{Ranked, cells_at, note, ranked_at, sort};
 use crate::slot::Slot;
 use cell_space::Cell;
@@ -19,7 +19,7 @@ fn is_unasked(slots: &[Slot], asked: &[bool], i: usize) -> bool
     ensures { result ≡ asks_at slots.now asked.now i }
 {
     let slot = &slots[i];
-    slot.moments.is_none() && !asked[i]
+    slot.known.is_none() && !asked[i]
 }
 
 /// Notes that the cell at a place is asked for, if it is neither known nor asked for.

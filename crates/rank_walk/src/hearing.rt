@@ -25,6 +25,5 @@ pub(crate) fn know(slots: &mut Vec<Slot>, place: u32, known: Known)
     ensures { slots.new.items ≡ slice_set slots.old.items place (with_known (slot_at slots.old.items place) known) }
 {
     let slot = &mut slots[place as usize];
-    slot.moments = Some(known.moments);
-    slot.below = known.below;
+    slot.known = Some(known);
 }

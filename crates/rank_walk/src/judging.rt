@@ -1,12 +1,13 @@
 // What is done with a pair.
 ghost use Rattle.std.specs.Prelude.{◌≡◌, ◌<◌, ◌≤◌, ◌+◌, ◌^◌, ◌==◌, false, length};
 ghost use Rattle.pair_law.specs.Laws.{AnswersBy};
-ghost use Rattle.rank_walk.specs.Seats.{Seat};
 ghost use Rattle.rank_walk.specs.Slots.{AreFair, AreFit, judge, judge_known, slot_at};
 ghost use Rattle.rank_walk.specs.Walked.{IsSmall};
 
+use crate::places::Places;
 use crate::slot::{Slot, known_at};
-use crate::{NodeLaw, Places, Source, Verdict};
+use crate::verdict::Verdict;
+use crate::{NodeLaw, Source};
 use fixed_point::V3;
 use node_moments::Moments;
 
@@ -21,9 +22,9 @@ fn of_two<A: Fn(&Moments, &Moments) -> bool, F: Fn(&Moments, &Moments) -> V3, S:
     at_b: bool,
 ) -> Verdict
     requires light { a.now.mass + b.now.mass ≤ 2 ^ 32 }
-    requires law { AnswersBy A.Fn F.Fn law.now.accept law.now.force (S.seat source.now).whole.gravity }
-    requires fair { AreFair (S.seat source.now).whole.gravity a.now b.now }
-    ensures value { result ≡ judge_known (S.seat source.now).whole.gravity false a.now at_a b.now at_b }
+    requires law { AnswersBy A.Fn F.Fn law.now.accept law.now.force (S.gravity source.now) }
+    requires fair { AreFair (S.gravity source.now) a.now b.now }
+    ensures value { result ≡ judge_known (S.gravity source.now) false a.now at_a b.now at_b }
     ensures small { IsSmall result }
 {
     if !law.is_final(a, b) {
@@ -55,9 +56,9 @@ pub(crate) fn judged<A: Fn(&Moments, &Moments) -> bool, F: Fn(&Moments, &Moments
 ) -> Verdict
     requires first { x.a < length slots.now }
     requires second { x.b < length slots.now }
-    requires law { AnswersBy A.Fn F.Fn law.now.accept law.now.force (S.seat source.now).whole.gravity }
-    requires fit { (x.a == x.b) ≡ false → AreFit (S.seat source.now).whole.gravity (slot_at slots.now x.a).moments (slot_at slots.now x.b).moments }
-    ensures value { result ≡ judge (S.seat source.now).whole.gravity slots.now x }
+    requires law { AnswersBy A.Fn F.Fn law.now.accept law.now.force (S.gravity source.now) }
+    requires fit { (x.a == x.b) ≡ false → AreFit (S.gravity source.now) (slot_at slots.now x.a).moments (slot_at slots.now x.b).moments }
+    ensures value { result ≡ judge (S.gravity source.now) slots.now x }
     ensures small { IsSmall result }
 {
     let (first, at_a) = known_at(slots, x.a as usize);
@@ -69,11 +70,11 @@ pub(crate) fn judged<A: Fn(&Moments, &Moments) -> bool, F: Fn(&Moments, &Moments
         return Verdict::Waits;
     };
     if x.a == x.b {
-        return if a.leaf {
+        return if a.is_leaf() {
             Verdict::Drops
         } else {
             Verdict::Opens
         };
     }
-    of_two(law, source, a, at_a, b, at_b)
+    of_two(law, source, a.node(), at_a, b.node(), at_b)
 }

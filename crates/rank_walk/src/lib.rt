@@ -22,17 +22,12 @@ mod verdict;
 mod walker;
 mod walking;
 
-pub use heard::Heard;
 pub use law::NodeLaw;
 pub use laws::divisions_have_seats;
-pub use places::Places;
-pub use ranked::Ranked;
 pub use rule::walk_by_rule;
 pub use sending::Summed;
-pub use slot::Slot;
 pub use source::Source;
 pub use told::{Known, Told};
-pub use verdict::Verdict;
 pub use walker::{Walked, Walker};
 
 #[cfg(test)]

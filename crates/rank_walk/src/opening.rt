@@ -1,17 +1,16 @@
 // Slots for the children of a cell.
 ghost use Rattle.std.specs.Prelude.{◌≡◌, ◌<◌, ◌≤◌, ◌+◌, ◌-◌, ◌++◌, ◌^◌, ◌/◌, ◌%◌, ◌==◌, ℕ, true, false, length, slice_set, List, OnOk, IfOk};
 ghost use Rattle.cell_space.specs.Cells.{CellData, child};
-ghost use Rattle.nbody_model.specs.Covers.{leaf};
-ghost use Rattle.rank_laws.specs.Whole.{opening};
 ghost use Rattle.rank_walk.specs.Slots.{SlotData, cell_at_place, cells, slot_at};
-ghost use Rattle.rank_walk.specs.Seats.{IsSeat, Seat, bit, has_child};
-ghost use Rattle.rank_walk.specs.Tables.{IsDown, IsGrown, IsIn, IsMaking, IsOpen, IsOpened, IsPushed, IsTable, known_at, leaf_of, with_children};
+ghost use Rattle.rank_walk.specs.Seats.{EachSeat, SomeSeat, TellsBelow, bit, has_child};
+ghost use Rattle.rank_walk.specs.Tables.{GoesDown, IsIn, IsTable, MakesAll, MakesOne, MayOpen, MayOpenPair, Opens, OpensPair, known_at, leaf_of, with_children};
 ghost use Rattle.rank_walk.specs.declared.heard.Heard.{Heard};
 
-use crate::places::Stack;
+use crate::Source;
+use crate::heard::Heard;
+use crate::places::{Places, Stack};
 use crate::pushing::{push_both, push_same};
 use crate::slot::{Slot, slot_of};
-use crate::{Heard, Places, Source};
 use cell_space::Cell;
 use fixed_point::{Memory, V3};
 
@@ -24,7 +23,11 @@ fn entry_at(slots: &[Slot], i: usize) -> (Cell, u8, u32, u8)
     ensures number { result.3 ≡ (slot_at slots.now i).number }
 {
     let slot = &slots[i];
-    (slot.cell, slot.below, slot.first, slot.number)
+    let below = match &slot.known {
+        Some(known) => known.below,
+        None => 0,
+    };
+    (slot.cell, below, slot.first, slot.number)
 }
 
 /// Whether the cell at a place is a leaf.
@@ -33,8 +36,8 @@ fn is_leaf(slots: &[Slot], i: usize) -> bool
     ensures { result ≡ leaf_of (slot_at slots.now i).moments }
 {
     let slot = &slots[i];
-    match &slot.moments {
-        Some(moments) => moments.leaf,
+    match &slot.known {
+        Some(known) => known.is_leaf(),
         None => false,
     }
 }
@@ -59,11 +62,10 @@ fn bit(below: u8, k: u8) -> bool
 
 /// Adds a slot for a child.
 fn push_child<S: Source>(source: &S, heard: &mut Heard, cell: Cell, k: u8) -> Result<(), Memory>
-    requires seat { IsSeat (S.seat source.now) }
     requires level { cell.level < 32 }
     requires small { k < 8 }
-    requires member { has_child (S.seat source.now) cell k ≡ true }
-    ensures { (start : Heard) → IsMaking (S.seat source.now) cell start (k + 1) heard.old → OnOk result (IsMaking (S.seat source.now) cell start k heard.new) }
+    requires member { SomeSeat (S.serves source.now) (λ z. has_child z cell k ≡ true) }
+    ensures { (start : Heard) → OnOk result (EachSeat (S.serves source.now) (MakesOne cell k start heard.old heard.new)) }
 {
     let child = cell.child(k);
     heard.slots.push(slot_of(source, child))?;
@@ -80,10 +82,9 @@ fn push_children<S: Source>(
     cell: Cell,
     below: u8,
 ) -> Result<(), Memory>
-    requires seat { IsSeat (S.seat source.now) }
     requires level { cell.level < 32 }
-    requires below { (k : ℕ) → k < 8 → bit below k ≡ has_child (S.seat source.now) cell k }
-    ensures { OnOk result (IsMaking (S.seat source.now) cell heard.old 0 heard.new) }
+    requires below { SomeSeat (S.serves source.now) (TellsBelow cell below) }
+    ensures { OnOk result (EachSeat (S.serves source.now) (MakesAll cell below heard.old heard.new)) }
 {
     let mut k = 8u8;
     while k > 0 {
@@ -97,13 +98,10 @@ fn push_children<S: Source>(
 
 /// Adds slots for the children of a known cell that is no leaf, unless they are there.
 pub(crate) fn open<S: Source>(source: &S, heard: &mut Heard, i: usize) -> Result<(u32, u32), Memory>
-    requires seat { IsSeat (S.seat source.now) }
-    requires table { IsTable (S.seat source.now) heard.old.slots.items }
     requires within { i < length heard.old.slots.items }
     requires known { known_at heard.old.slots.items i ≡ true }
-    requires parted { leaf (opening (S.seat source.now).whole) (cell_at_place heard.old.slots.items i) ≡ false }
-    ensures grown { OnOk result (IsGrown (S.seat source.now) heard.old heard.new) }
-    ensures down { IfOk result (λ r. IsDown (S.seat source.now) heard.new.slots.items (cell_at_place heard.old.slots.items i) r.0 r.1) }
+    requires open { SomeSeat (S.serves source.now) (MayOpen heard.old i) }
+    ensures { IfOk result (λ r. EachSeat (S.serves source.now) (Opens heard.old i heard.new r.0 r.1)) }
 {
     let (cell, below, first, number) = entry_at(&heard.slots, i);
     if number > 0 {
@@ -121,12 +119,10 @@ pub(crate) fn open<S: Source>(source: &S, heard: &mut Heard, i: usize) -> Result
 
 /// What a known cell is replaced by: itself if it is a leaf, or its children.
 pub(crate) fn down<S: Source>(source: &S, heard: &mut Heard, i: usize) -> Result<(u32, u32), Memory>
-    requires seat { IsSeat (S.seat source.now) }
-    requires table { IsTable (S.seat source.now) heard.old.slots.items }
     requires within { i < length heard.old.slots.items }
     requires known { known_at heard.old.slots.items i ≡ true }
-    ensures grown { OnOk result (IsGrown (S.seat source.now) heard.old heard.new) }
-    ensures down { IfOk result (λ r. IsDown (S.seat source.now) heard.new.slots.items (cell_at_place heard.old.slots.items i) r.0 r.1) }
+    requires table { SomeSeat (S.serves source.now) (λ z. IsTable z heard.old.slots.items) }
+    ensures { IfOk result (λ r. EachSeat (S.serves source.now) (GoesDown heard.old i heard.new r.0 r.1)) }
 {
     if is_leaf(&heard.slots, i) {
         return Ok((i as u32, i as u32 + 1));
@@ -141,12 +137,9 @@ pub(crate) fn open_pair<S: Source>(
     stack: &mut Stack,
     x: Places,
 ) -> Result<(), Memory>
-    requires seat { IsSeat (S.seat source.now) }
-    requires table { IsTable (S.seat source.now) heard.old.slots.items }
     requires within { IsIn heard.old.slots.items x }
-    requires open { IsOpen (S.seat source.now) heard.old.slots.items x }
-    ensures grown { OnOk result (IsGrown (S.seat source.now) heard.old heard.new) }
-    ensures pushed { OnOk result (IsPushed (S.seat source.now) heard.new.slots.items (cells heard.old.slots.items x) stack.old.items stack.new.items) }
+    requires open { SomeSeat (S.serves source.now) (MayOpenPair heard.old x) }
+    ensures { OnOk result (EachSeat (S.serves source.now) (OpensPair heard.old x stack.old.items heard.new stack.new.items)) }
 {
     if x.a == x.b {
         let (from, to) = open(source, heard, x.a as usize)?;

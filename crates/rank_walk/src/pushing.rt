@@ -2,8 +2,7 @@
 ghost use Rattle.std.specs.Prelude.{◌≡◌, ◌≤◌, ◌<◌, ◌∷◌, [], length, OnOk};
 ghost use Rattle.rank_walk.specs.Slots.{both, from_to, put_on, row, same, two};
 
-use crate::Places;
-use crate::places::Stack;
+use crate::places::{Places, Stack};
 use crate::slot::{Slot, mine_at};
 use fixed_point::Memory;
 use std::alloc::Global;

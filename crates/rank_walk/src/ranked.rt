@@ -15,9 +15,9 @@ use std::collections::BTreeMap;
 
 /// A place, with its cell's number in the order of cells.
 #[derive(Clone, Copy)]
-pub struct Ranked {
-    pub order: u128,
-    pub place: u32,
+pub(crate) struct Ranked {
+    pub(crate) order: u128,
+    pub(crate) place: u32,
 }
 
 /// A place with its cell's number.

@@ -1,6 +1,6 @@
 // The walk by the opening rule and the force of pairs.
 ghost use Rattle.std.specs.Prelude.{◌≡◌, OnOk, IfOk, option_copied};
-ghost use Rattle.rank_walk.specs.Seats.{IsSeat, Seat};
+ghost use Rattle.rank_walk.specs.Seats.{EachSeat, SomeSeat};
 ghost use Rattle.rank_walk.specs.Walkers.{AsksNow, CountsNow, IsKeptFor, WalksOn};
 
 use crate::{NodeLaw, Source, Walked, Walker};
@@ -19,12 +19,11 @@ pub fn walk_by_rule<S: Source>(
     table: Option<&Table>,
     source: &S,
 ) -> Result<Walked, Memory>
-    requires gravity { (S.seat source.now).whole.gravity ≡ record { setup = setup.now; table = option_copied table } }
-    requires seat { IsSeat (S.seat source.now) }
-    requires rank { IsKeptFor (S.seat source.now) walker.old }
-    ensures state { OnOk result (WalksOn (S.seat source.now) walker.old walker.new) }
-    ensures size { IfOk result (λ v. CountsNow (S.seat source.now) walker.old v.size) }
-    ensures asks { IfOk result (λ v. AsksNow (S.seat source.now) walker.old v.asks.items) }
+    requires gravity { S.gravity source.now ≡ record { setup = setup.now; table = option_copied table } }
+    requires rank { SomeSeat (S.serves source.now) (IsKeptFor walker.old) }
+    ensures state { OnOk result (EachSeat (S.serves source.now) (WalksOn walker.old walker.new)) }
+    ensures size { IfOk result (λ v. EachSeat (S.serves source.now) (CountsNow walker.old v.size)) }
+    ensures asks { IfOk result (λ v. EachSeat (S.serves source.now) (AsksNow walker.old v.asks.items)) }
 {
     let law = NodeLaw {
         accept: |a: &Moments, b: &Moments| accept_of(setup, a, b),

@@ -1,38 +1,34 @@
 // A cell that a rank has heard of.
-ghost use Rattle.std.specs.Prelude.{◌≡◌, ◌<◌, ◌≤◌, ◌+◌, ◌*◌, ◌^◌, Option, true, length, option_map, is_some};
-ghost use Rattle.nbody_model.specs.Walks.{has_member};
-ghost use Rattle.rank_laws.specs.Whole.{opening};
-ghost use Rattle.rank_walk.specs.Seats.{IsSeat, IsTold, Seat};
-ghost use Rattle.rank_walk.specs.Slots.{SlotData, no_slot, slot_at};
-ghost use Rattle.rank_walk.specs.Tables.{IsFresh};
+ghost use Rattle.std.specs.Prelude.{◌≡◌, ◌<◌, ◌≤◌, ◌+◌, ◌*◌, ◌^◌, length, option_map};
+ghost use Rattle.rank_walk.specs.Seats.{EachSeat, SomeSeat, Stands};
+ghost use Rattle.rank_walk.specs.Slots.{held, slot_at};
+ghost use Rattle.rank_walk.specs.Sources.{HearsOf, slot_told};
 
-use crate::{Source, Told};
+use crate::{Known, Source, Told};
 use cell_space::Cell;
-use node_moments::Moments;
 use std::marker::Model;
 
-/// A cell with its moments, where it is known. Of its children `below` tells which have members, a bit each, and `first`
-/// and `number` where they stand, once it is opened. The rank is `mine` in its span, and `here` its home; `order` is its
-/// number in the order of cells.
+/// A cell with what is known of it. `first` and `number` tell where its children stand, once it is opened. The rank is
+/// `mine` in its span, and `here` its home; `order` is its number in the order of cells.
 #[derive(Drop)]
-pub struct Slot {
-    pub moments: Option<Moments>,
-    pub cell: Cell,
-    pub first: u32,
-    pub number: u8,
-    pub below: u8,
-    pub mine: bool,
-    pub here: bool,
-    pub home: u16,
-    pub order: u128,
+pub(crate) struct Slot {
+    pub(crate) known: Option<Known>,
+    pub(crate) cell: Cell,
+    pub(crate) first: u32,
+    pub(crate) number: u8,
+    pub(crate) mine: bool,
+    pub(crate) here: bool,
+    pub(crate) home: u16,
+    pub(crate) order: u128,
 }
 
 impl Model for Slot {
-    ghost use Rattle.rank_walk.specs.Slots.{SlotData};
+    ghost use Rattle.std.specs.Prelude.{option_map};
+    ghost use Rattle.rank_walk.specs.Slots.{SlotData, held, or_zero};
 
     ghost Value = { SlotData };
 
-    ghost view = { λ s. record { cell = s.cell; moments = s.moments; below = s.below; first = s.first; number = s.number; mine = s.mine; here = s.here; home = s.home; order = s.order } };
+    ghost view = { λ s. record { cell = s.cell; moments = option_map (λ k. held k.moments) s.known; below = or_zero (option_map (λ k. k.below) s.known); first = s.first; number = s.number; mine = s.mine; here = s.here; home = s.home; order = s.order } };
 }
 
 /// The number of a cell in the order by level and then by first key.
@@ -44,18 +40,24 @@ pub(crate) fn order_of(level: u8, first: u128) -> u128
     u128::from(level) * (1 << 96) + first
 }
 
-/// The slot of a cell of which nothing is known.
-fn unknown(cell: Cell, mine: bool, home: u16, order: u128) -> Slot
-    ensures { result ≡ record no_slot { cell = cell; mine = mine; home = home; order = order } }
+/// The slot of a cell of which a rank is told this.
+fn slot_told(cell: Cell, told: Told, order: u128) -> Slot
+    ensures { result ≡ slot_told cell told order }
 {
+    let Told {
+        known,
+        mine,
+        home,
+        ..
+    } = told;
+    let here = known.is_some();
     Slot {
-        moments: None,
+        known,
         cell,
         first: 0,
         number: 0,
-        below: 0,
         mine,
-        here: false,
+        here,
         home,
         order,
     }
@@ -63,36 +65,22 @@ fn unknown(cell: Cell, mine: bool, home: u16, order: u128) -> Slot
 
 /// The slot of a cell that a rank hears of.
 pub(crate) fn slot_of<S: Source>(source: &S, cell: Cell) -> Slot
-    requires seat { IsSeat (S.seat source.now) }
-    requires member { has_member (opening (S.seat source.now).whole) cell ≡ true }
-    ensures { IsFresh (S.seat source.now) cell result }
+    requires { SomeSeat (S.serves source.now) (Stands cell) }
+    ensures { EachSeat (S.serves source.now) (HearsOf cell result) }
 {
-    let Told {
-        known,
-        mine,
-        home,
-        first,
-    } = source.told(cell);
-    let order = order_of(cell.level, first);
-    let Some(known) = known else {
-        return unknown(cell, mine, home, order);
-    };
-    Slot {
-        moments: Some(known.moments),
-        below: known.below,
-        here: true,
-        ..unknown(cell, mine, home, order)
-    }
+    let told = source.told(cell);
+    let order = order_of(cell.level, told.first);
+    slot_told(cell, told, order)
 }
 
-/// The moments at a place, and whether the rank is the cell's home.
-pub(crate) fn known_at(slots: &[Slot], i: usize) -> (Option<&Moments>, bool)
+/// What is known of the cell at a place, and whether the rank is its home.
+pub(crate) fn known_at(slots: &[Slot], i: usize) -> (Option<&Known>, bool)
     requires { i < length slots.now }
-    ensures moments { option_map (λ m. m.now) result.0 ≡ (slot_at slots.now i).moments }
+    ensures moments { option_map (λ k. held k.now.moments) result.0 ≡ (slot_at slots.now i).moments }
     ensures here { result.1 ≡ (slot_at slots.now i).here }
 {
     let slot = &slots[i];
-    (slot.moments.as_ref(), slot.here)
+    (slot.known.as_ref(), slot.here)
 }
 
 /// Whether the rank is in the span of the cell at a place.

@@ -1,25 +1,23 @@
 // What a rank begins with.
 ghost use Rattle.std.specs.Prelude.{◌≡◌, ◌<◌, ◌&&◌, ◌∷◌, [], true, false, length, IfOk, is_some, if◌then◌else◌};
 ghost use Rattle.std.specs.List.{AllByRecursion, list_any};
-ghost use Rattle.cell_space.specs.Cells.{root_cell};
-ghost use Rattle.nbody_model.specs.Walks.{has_member};
-ghost use Rattle.rank_laws.specs.Whole.{opening};
-ghost use Rattle.rank_walk.specs.Seats.{IsSeat, Seat};
+ghost use Rattle.rank_walk.specs.Seats.{EachSeat, IsServing};
 ghost use Rattle.rank_walk.specs.Slots.{SlotData, slot_at, two};
 ghost use Rattle.rank_walk.specs.Starts.{BeginsWith, knows_places};
 ghost use Rattle.rank_walk.specs.Tables.{IsIn, known_at};
 
+use crate::Source;
+use crate::heard::Heard;
+use crate::places::Places;
 use crate::slot::{Slot, slot_of};
-use crate::{Heard, Places, Source};
 use cell_space::Cell;
 use fixed_point::{Memory, V3};
 use std::alloc::Global;
 
 /// The root alone.
 pub(crate) fn first_heard<S: Source>(alloc: Global, source: &S) -> Result<Heard, Memory>
-    requires seat { IsSeat (S.seat source.now) }
-    requires root { has_member (opening (S.seat source.now).whole) root_cell ≡ true }
-    ensures { IfOk result (BeginsWith (S.seat source.now)) }
+    requires { IsServing (S.serves source.now) }
+    ensures { IfOk result (λ h. EachSeat (S.serves source.now) (BeginsWith h)) }
 {
     let mut slots = Vec::new(alloc);
     slots.push(slot_of(source, Cell::root()))?;
@@ -64,7 +62,7 @@ fn is_known(slots: &[Slot], place: u32) -> bool
     ensures { result ≡ known_at slots.now place }
 {
     let slot = &slots[place as usize];
-    slot.moments.is_some()
+    slot.known.is_some()
 }
 
 /// Whether both cells of a pair are known.

@@ -12,11 +12,10 @@ use std::test::Fail;
 // The root, as the cell of this home and number, with the rank in its span or not.
 fn slot(mine: bool, home: u16, order: u128) -> Slot {
     Slot {
-        moments: None,
+        known: None,
         cell: Cell::root(),
         first: 0,
         number: 0,
-        below: 0,
         mine,
         here: false,
         home,

@@ -3,17 +3,19 @@ ghost use Rattle.std.specs.Prelude.{◌≡◌, length, OnOk, IfOk};
 ghost use Rattle.pair_law.specs.Laws.{AnswersBy};
 ghost use Rattle.rank_laws.specs.Contents.{sums_sent};
 ghost use Rattle.rank_laws.specs.Machine.{Rank, through};
-ghost use Rattle.rank_walk.specs.Seats.{IsSeat, Seat, rules};
-ghost use Rattle.rank_walk.specs.Walkers.{AsksNow, Awaits, CountsNow, HasBodies, IsKeptFor, IsThrough, IsUnwalked, IsWalker, WalksOn};
+ghost use Rattle.rank_walk.specs.Seats.{EachSeat, IsServing, Seat, SomeSeat, rules};
+ghost use Rattle.rank_walk.specs.Walkers.{AsksNow, Awaits, CountsNow, IsKeptFirst, IsKeptFor, IsThrough, IsWalker, WalksOn};
 ghost use Rattle.rank_walk.specs.Walkers.{as_sent, counted_of, may_go_on, replied};
 
 use crate::asking::ask;
+use crate::heard::Heard;
 use crate::hearing::{know, place_of};
+use crate::places::Places;
 use crate::sending::sums_for;
 use crate::slot::order_of;
 use crate::starting::{first_heard, first_list, knows_some};
 use crate::walking::work_off;
-use crate::{Heard, Known, NodeLaw, Places, Source, Summed};
+use crate::{Known, NodeLaw, Source, Summed};
 use cell_space::Cell;
 use fixed_point::{Memory, V3};
 use node_moments::Moments;
@@ -43,9 +45,8 @@ pub struct Walked {
 impl Walker {
     /// A rank before its first walk.
     pub fn new<S: Source>(alloc: Global, source: &S) -> Result<Walker, Memory>
-        requires seat { IsSeat (S.seat source.now) }
-        requires some { HasBodies (S.seat source.now) }
-        ensures { (s : Rank) → IsUnwalked s → IfOk result (IsWalker (S.seat source.now) s) }
+        requires { IsServing (S.serves source.now) }
+        ensures { IfOk result (λ w. EachSeat (S.serves source.now) (IsKeptFirst w)) }
     {
         let heard = first_heard(alloc, source)?;
         let list = first_list(alloc, &heard.slots)?;
@@ -67,12 +68,11 @@ impl Walker {
         law: &NodeLaw<A, F>,
         source: &S,
     ) -> Result<Walked, Memory>
-        requires law { AnswersBy A.Fn F.Fn law.now.accept law.now.force (S.seat source.now).whole.gravity }
-        requires seat { IsSeat (S.seat source.now) }
-        requires rank { IsKeptFor (S.seat source.now) self.old }
-        ensures state { OnOk result (WalksOn (S.seat source.now) self.old self.new) }
-        ensures size { IfOk result (λ v. CountsNow (S.seat source.now) self.old v.size) }
-        ensures asks { IfOk result (λ v. AsksNow (S.seat source.now) self.old v.asks.items) }
+        requires law { AnswersBy A.Fn F.Fn law.now.accept law.now.force (S.gravity source.now) }
+        requires rank { SomeSeat (S.serves source.now) (IsKeptFor self.old) }
+        ensures state { OnOk result (EachSeat (S.serves source.now) (WalksOn self.old self.new)) }
+        ensures size { IfOk result (λ v. EachSeat (S.serves source.now) (CountsNow self.old v.size)) }
+        ensures asks { IfOk result (λ v. EachSeat (S.serves source.now) (AsksNow self.old v.asks.items)) }
     {
         let before = self.counted;
         let wait = work_off(

@@ -4,14 +4,16 @@ ghost use Rattle.fixed_point.specs.Vectors.{IsAtMost};
 ghost use Rattle.cell_space.specs.Cells.{CellData};
 ghost use Rattle.pair_law.specs.Laws.{AnswersBy};
 ghost use Rattle.rank_walk.specs.Slots.{cells, sum_at_place};
-ghost use Rattle.rank_walk.specs.Seats.{IsSeat, Seat};
-ghost use Rattle.rank_walk.specs.Walked.{IsStep, IsWalk, MayStep, MayWalk};
+ghost use Rattle.rank_walk.specs.Seats.{EachSeat, SomeSeat};
+ghost use Rattle.rank_walk.specs.Walked.{IsStepOf, IsWalk, MayStep, MayWalk};
 
 use crate::adding::{count_pair, touch};
+use crate::heard::Heard;
 use crate::judging::judged;
 use crate::opening::open_pair;
-use crate::places::Stack;
-use crate::{Heard, NodeLaw, Places, Source, Verdict};
+use crate::places::{Places, Stack};
+use crate::verdict::Verdict;
+use crate::{NodeLaw, Source};
 use fixed_point::{Memory, V3};
 use node_moments::Moments;
 use smallvec::SmallVec;
@@ -27,10 +29,9 @@ fn step<A: Fn(&Moments, &Moments) -> bool, F: Fn(&Moments, &Moments) -> V3, S: S
     count: &mut u64,
     x: Places,
 ) -> Result<(), Memory>
-    requires law { AnswersBy A.Fn F.Fn law.now.accept law.now.force (S.seat source.now).whole.gravity }
-    requires seat { IsSeat (S.seat source.now) }
-    requires at { MayStep (S.seat source.now) heard.old (stack.old.items ++ x ∷ []) wait.old.items count.old }
-    ensures at { OnOk result (IsStep (S.seat source.now) heard.old (stack.old.items ++ x ∷ []) wait.old.items count.old heard.new stack.new.items wait.new.items count.new) }
+    requires law { AnswersBy A.Fn F.Fn law.now.accept law.now.force (S.gravity source.now) }
+    requires at { SomeSeat (S.serves source.now) (MayStep heard.old (stack.old.items ++ x ∷ []) wait.old.items count.old) }
+    ensures at { OnOk result (EachSeat (S.serves source.now) (IsStepOf heard.old stack.old.items x wait.old.items count.old heard.new stack.new.items wait.new.items count.new)) }
 {
     match judged(law, source, &heard.slots, x) {
         Verdict::Waits => wait.push(x)?,
@@ -65,10 +66,9 @@ pub(crate) fn work_off<
     count: &mut u64,
     list: &[Places],
 ) -> Result<Vec<Places>, Memory>
-    requires law { AnswersBy A.Fn F.Fn law.now.accept law.now.force (S.seat source.now).whole.gravity }
-    requires seat { IsSeat (S.seat source.now) }
-    requires may { MayWalk (S.seat source.now) heard.old list.now count.old }
-    ensures { IfOk result (λ wait. IsWalk (S.seat source.now) heard.old list.now count.old heard.new wait.items count.new) }
+    requires law { AnswersBy A.Fn F.Fn law.now.accept law.now.force (S.gravity source.now) }
+    requires may { SomeSeat (S.serves source.now) (MayWalk heard.old list.now count.old) }
+    ensures { IfOk result (λ wait. EachSeat (S.serves source.now) (IsWalk heard.old list.now count.old heard.new wait.items count.new)) }
 {
     let mut wait = Vec::new(alloc);
     let mut stack = turned(alloc, list)?;

@@ -1,6 +1,5 @@
-use Rattle.std.proofs.Common.{List, subst, sym}
+use Rattle.std.proofs.Common.{subst, sym}
 use Rattle.std.specs.List.{AllByRecursion}
-use Rattle.rank_walk.specs.declared.ranked.Ranked.{Ranked}
 use Rattle.rank_walk.specs.Asked.{IsRanked}
 use Rattle.rank_walk.proofs.Unasked.{each_permuted}
 use Rattle.rank_walk.proofs.asking.ask.Goals as goal

@@ -1,17 +1,12 @@
-use Rattle.std.proofs.Common.{◌≡◌, ap, sym, ◌∙◌, true}
-use Rattle.nbody_model.specs.Covers.{leaf}
-use Rattle.rank_laws.specs.Whole.{opening}
-use Rattle.rank_walk.specs.Slots.{slot_at, cell_at_place}
-use Rattle.rank_walk.specs.Tables.{leaf_of}
-use Rattle.rank_walk.proofs.Opened.{leaf_down, leaf_is}
+use Rattle.std.proofs.lemmas.Result.{IfOk-weaker}
+use Rattle.rank_walk.proofs.Replaced.{leaf_stays, may_open}
 use Rattle.rank_walk.proofs.opening.down.Goals as goal
 
-pub returns-then-is_leaf-clause-down : goal.returns-then-is_leaf-clause-down
-returns-then-is_leaf-clause-down g c =
-    let e : leaf (opening (g.S.Source.seat c.args.source.now).whole) (cell_at_place c.args.heard.now.slots.items c.args.i) ≡ true =
-    sym (leaf_is (g.S.Source.seat c.args.source.now) c.args.heard.now.slots.items c.args.i c.requires.table c.requires.within c.requires.known) ∙ sym (c.is_leaf.ensures ∙ ap (λ t. leaf_of (slot_at t c.args.i).moments) c.deref.ensures.value) ∙ c.if-is_leaf.true in
-    leaf_down (g.S.Source.seat c.args.source.now) c.args.heard.now.slots.items c.args.i c.requires.within e
+pub returns-then-is_leaf : goal.returns-then-is_leaf
+returns-then-is_leaf g c = λ z s table. leaf_stays z c.args.heard.now c.args.i c.requires.within c.requires.known c.deref.result.now c.deref.ensures.value c.is_leaf.result c.is_leaf.ensures table c.if-is_leaf.true
 
-pub open-requires-clause-parted : goal.open-requires-clause-parted
-open-requires-clause-parted g c =
-    sym (leaf_is (g.S.Source.seat c.args.source.now) c.args.heard.now.slots.items c.args.i c.requires.table c.requires.within c.requires.known) ∙ sym (c.is_leaf.ensures ∙ ap (λ t. leaf_of (slot_at t c.args.i).moments) c.deref.ensures.value) ∙ c.if-is_leaf.false
+pub open-requires-clause-open : goal.open-requires-clause-open
+open-requires-clause-open g c = (c.requires.table.0, (c.requires.table.1.0, may_open c.requires.table.0 c.args.heard.now c.args.i c.requires.within c.requires.known c.deref.result.now c.deref.ensures.value c.is_leaf.result c.is_leaf.ensures c.requires.table.1.1 c.if-is_leaf.false))
+
+pub returns : goal.returns
+returns g c = IfOk-weaker c.open.result _ _ (λ r opens z s table. opens z s (may_open z c.args.heard.now c.args.i c.requires.within c.requires.known c.deref.result.now c.deref.ensures.value c.is_leaf.result c.is_leaf.ensures table c.if-is_leaf.false)) c.open.ensures
