@@ -4,6 +4,7 @@ pub mod Made
 pub mod Numbers
 pub mod Permuted
 pub mod Together
+pub mod Spanned
 pub mod Sole
 pub mod Replies
 pub mod Bits

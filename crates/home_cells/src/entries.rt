@@ -1,10 +1,11 @@
 // The entries of a rank's nodes.
-ghost use Rattle.std.specs.Prelude.{◌≡◌, ◌<◌, ◌≤◌, IfOk, length, slice_index_or};
+ghost use Rattle.std.specs.Prelude.{◌≡◌, ◌<◌, ◌≤◌, IfOk, length};
 ghost use Rattle.octree_build.specs.Trees.{IsOfBodies, NodeData, cell_of_node};
-ghost use Rattle.home_cells.specs.Entries.{AreEntriesFor, HasChildrenAt, IsEntryAt, is_told_by};
+ghost use Rattle.home_cells.specs.Entries.{AreEntriesFor, HasChildrenAt, IsEntryAt};
 
 use crate::children::children_of;
-use domain_split::{Bounds, span};
+use crate::spans::Spans;
+use domain_split::Bounds;
 use fixed_point::Memory;
 use node_moments::Raw;
 use octree_build::Tree;
@@ -26,16 +27,6 @@ impl Model for Entry {
     ghost Value = { EntryData };
 
     ghost view = { λ e. record { raw = e.raw; children = numbers_in e.children } };
-}
-
-/// Whether a node is told to a receiver: its home, or where it is a leaf, a rank in its span.
-fn is_told(tree: &Tree, bounds: &Bounds, to: u16, i: u32) -> bool
-    requires { i < length tree.now.nodes }
-    ensures { (d : NodeData) → result ≡ is_told_by bounds.now to (slice_index_or tree.now.nodes i d).moments }
-{
-    let node = tree.node(i);
-    let (first, last) = span(&node.cell, bounds);
-    last == to || (node.leaf && first <= to && to <= last)
 }
 
 /// The level of a node.
@@ -62,7 +53,7 @@ fn children_at(tree: &Tree, i: u32) -> u8
 }
 
 /// The entry of a node.
-fn entry_at(tree: &Tree, i: u32) -> Entry
+pub(crate) fn entry_at(tree: &Tree, i: u32) -> Entry
     requires place { i < length tree.now.nodes }
     requires tree { IsOfBodies tree.now }
     ensures { IsEntryAt tree.now i result }
@@ -71,17 +62,6 @@ fn entry_at(tree: &Tree, i: u32) -> Entry
         raw: tree.raw(i),
         children: children_at(tree, i),
     }
-}
-
-/// How many nodes are told to a receiver.
-fn count_told(tree: &Tree, bounds: &Bounds, to: u16) -> usize {
-    let mut count: usize = 0;
-    for i in 0..tree.len() {
-        if is_told(tree, bounds, to, i) {
-            count = count.saturating_add(1);
-        }
-    }
-    count
 }
 
 /// The entries that a rank's tree gives for a receiver: of each node whose home it is, and of each leaf that has it in its
@@ -96,11 +76,6 @@ pub fn entries_for(
     requires rank { to < length bounds.now }
     ensures { IfOk result (λ entries. AreEntriesFor tree.now bounds.now to entries.items) }
 {
-    let mut entries = Vec::with_capacity(alloc, count_told(tree, bounds, to))?;
-    for i in 0..tree.len() {
-        if is_told(tree, bounds, to, i) {
-            entries.push(entry_at(tree, i))?;
-        }
-    }
-    Ok(entries)
+    let spans = Spans::of(alloc, tree, bounds)?;
+    spans.entries_for(alloc, tree, to)
 }

@@ -6,9 +6,11 @@ mod entries;
 mod found;
 mod gather;
 mod marks;
+mod spans;
 mod table;
 
 pub use entries::{Entry, entries_for};
+pub use spans::Spans;
 pub use table::HomeTable;
 
 #[cfg(test)]

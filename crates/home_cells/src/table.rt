@@ -35,13 +35,26 @@ impl Model for HomeTable {
     ghost invariant = { λ t. IsOrderOf t.entries.items t.order.items };
 }
 
-/// Puts more entries behind others, in no more room than they need.
+/// Makes room for more entries. Where they have to move, there is room for a sixteenth more, so that many ranks' entries
+/// aren't moved again and again.
+fn make_room(entries: &mut Vec<Entry>, more: usize) -> Result<(), Memory>
+    ensures { entries.new.items ≡ entries.old.items }
+{
+    let room = entries.capacity().saturating_sub(entries.len());
+    if more <= room {
+        return Ok(());
+    }
+    entries.reserve_exact(more.max(entries.len() / 16))?;
+    Ok(())
+}
+
+/// Puts more entries behind others.
 fn append(entries: &mut Vec<Entry>, more: Vec<Entry>) -> Result<(), Memory>
     ensures ok { OnOk result (entries.new.items ≡ entries.old.items ++ more.items) }
     ensures err { OnErr result (entries.new.items ≡ entries.old.items) }
 {
     let mut more = more;
-    entries.reserve_exact(more.len())?;
+    make_room(entries, more.len())?;
     entries.append(&mut more)?;
     Ok(())
 }

@@ -6,11 +6,11 @@ ghost use Rattle.rank_curve_laws.specs.Along.{IsDivision};
 ghost use Rattle.home_cells.specs.Found.{KeepsAll, Sends};
 
 use super::*;
-use cell_space::{Cell, cell_of};
+use cell_space::Cell;
 use domain_split::{Bounds, home, split};
 use model_laws::laws::bodies::keep_limits;
 use nbody_model::{Body, Motion};
-use octree_build::build;
+use octree_build::{Tree, build};
 use std::alloc::Global;
 use std::test::Fail;
 
@@ -179,23 +179,43 @@ fn tells(table: &HomeTable, all: &Division, to: u16, cell: &Cell) -> bool
     is_as_filtered(table.at(cell), &filtered(all.bodies, cell))
 }
 
-// Whether all tables tell of the cells around the bodies, and of those beside them, what plain filters find.
+// The same of a cell and one of its children, which may have no member.
+fn tells_below(table: &HomeTable, all: &Division, to: u16, cell: &Cell, k: u8) -> bool
+    requires bodies { IsValid all.now.bodies.now }
+    requires soft { AreSoftenings all.now.soft.now }
+    requires division { IsDivision all.now.bodies.now all.now.owners.now all.now.bounds.now }
+    requires table { KeepsAll all.now.bodies.now all.now.owners.now all.now.bounds.now all.now.soft.now to (length all.now.bounds.now) table.now }
+    requires child { k < 8 }
+{
+    if !tells(table, all, to, cell) {
+        return false;
+    }
+    cell.level == 32 || tells(table, all, to, &cell.child(k))
+}
+
+// The cell of a node.
+fn cell_at(tree: &Tree, i: u32) -> Cell
+    requires { i < length tree.now.nodes }
+{
+    let node = tree.node(i);
+    node.cell
+}
+
+// Whether all tables tell of the cells of the whole tree, and of one child of each, what plain filters find.
 fn all_tell(alloc: Global, all: &Division) -> Result<bool, Fail>
     requires bodies { IsValid all.now.bodies.now }
     requires soft { AreSoftenings all.now.soft.now }
     requires division { IsDivision all.now.bodies.now all.now.owners.now all.now.bounds.now }
 {
+    let tree = build(alloc, all.bodies, all.soft)?;
     for to in 0..all.bounds.ranks() as u16 {
         let table = table_of(alloc, all, to)?;
-        for body in all.bodies {
-            let [x, y, z] = body.motion.pos();
-            for level in [0, 1, 2, 23, 24, 31, 32] {
-                for beside in [0, 1, 512] {
-                    let cell = cell_of([x.wrapping_add(beside), y, z], level);
-                    if !tells(&table, all, to, &cell) {
-                        return Ok(false);
-                    }
-                }
+        if !tells_below(&table, all, to, &Cell::root(), 0) {
+            return Ok(false);
+        }
+        for i in 0..tree.len() {
+            if !tells_below(&table, all, to, &cell_at(&tree, i), (i % 8) as u8) {
+                return Ok(false);
             }
         }
     }
@@ -233,24 +253,24 @@ fn coordinate(set: u32, draw: u32) -> u32 {
     }
 }
 
+// 300 sets of up to 60 bodies, of 1 to 9 ranks.
 #[test]
 fn homes_of_random_sets(rt: HostRuntime) -> Result<(), Fail> {
     let alloc = rt.alloc();
     let mut seed: u64 = 3;
-    for set in 0..9u32 {
-        let mut places = [[0u32; 3]; 9];
-        for k in 0..9usize {
+    for set in 0..300u32 {
+        let mut places = [[0u32; 3]; 60];
+        for k in 0..60usize {
             for axis in 0..3usize {
                 seed = next(seed);
                 places[k][axis] = coordinate(set, (seed >> 32) as u32);
             }
         }
         seed = next(seed);
-        let count = ((seed >> 33) % 10) as usize;
+        let count = ((seed >> 33) % 61) as usize;
         let bodies = bodies_at(alloc, places.get(..count).ok_or("short")?)?;
-        for ranks in [1, 2, 5, 9] {
-            assert!(rt; ranks_tell(alloc, &bodies, ranks)?, "{set} {ranks}");
-        }
+        let ranks = set / 3 % 9 + 1;
+        assert!(rt; ranks_tell(alloc, &bodies, ranks)?, "{set} {ranks}");
     }
     Ok(())
 }
