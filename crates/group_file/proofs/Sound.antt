@@ -1,16 +1,17 @@
 -- What holds of groups and catalogues without a fault.
-use Rattle.std.proofs.Common.{◌≡◌, ℕ, zero, suc, ◌+◌, ◌-◌, ◌*◌, ◌<◌, ◌≤◌, ◌==◌, List, [], length, get_or, map, Bool, true, false, not, cond, Option, Some, None, refl, sym, ap, subst, ◌∙◌, arith}
+use Rattle.std.proofs.Common.{◌≡◌, ℕ, zero, suc, ◌+◌, ◌-◌, ◌*◌, ◌<◌, ◌≤◌, ◌==◌, List, [], length, get_or, map, Bool, true, false, not, cond, Option, Some, None, take, refl, sym, ap, subst, ◌∙◌, arith}
 use Rattle.std.specs.Prelude.{nat_lt, nat_le, option_map}
-use Rattle.std.specs.List.{All, range_with_len}
+use Rattle.std.specs.Option.{option_or}
+use Rattle.std.specs.Str.{bytes_eq}
 use Rattle.std.specs.List.Sorted.{IsStrictlyIncreasing}
 use Rattle.std.proofs.lemmas.Bool.{cond-false}
 use Rattle.std.proofs.lemmas.Bool.Decides.{nat_tests}
 use Rattle.std.proofs.lemmas.List.{get_or-map, length-map}
 use Rattle.std.proofs.lemmas.List.FromFn.{length-map-range_with_len, get_or-map-range_with_len}
 use Rattle.group_file.specs.declared.errors.GroupErr.{GroupErr}
-use Rattle.group_file.specs.declared.errors.GroupErr.TheVariants.{Truncated, Field, Repeated}
+use Rattle.group_file.specs.declared.errors.GroupErr.TheVariants.{Tag, Truncated, Field, Repeated}
 use Rattle.group_file.specs.Catalogues.{GroupData, IsGroup, IsGood}
-use Rattle.group_file.specs.GroupFile.{count_in, label_at, number_at, id_at, ids_at, group_at, start, first_groups, groups_in, first_of, is_wrong_id, id_fault, is_low, group_fault, label_before, fault_of_group, groups_fault, repeated_in, repeated_fault, first_fault, head_fault, rest_fault, Spell}
+use Rattle.group_file.specs.GroupFile.{count_in, label_at, number_at, id_at, ids_at, group_at, start, first_groups, groups_in, first_of, is_wrong_id, id_fault, is_low, group_fault, label_before, fault_of_group, groups_fault, repeated_in, repeated_fault, group_tag, head_fault, rest_fault, Spell}
 use Rattle.group_file.proofs.Faults.{each_none, both_none}
 use Rattle.group_file.proofs.Twice.{are_apart}
 
@@ -133,3 +134,13 @@ catalogue_good bytes n l h r = record {
       subst IsGroup (sym (group_of bytes n k d within)) (is_group bytes (label_before bytes k) (start bytes k) (sound_at bytes n l h k within)));
   apart = are_apart (first_groups bytes n) (none_of (repeated_in (first_groups bytes n)) r);
 }
+
+-- bytes without a fault spell a good catalogue
+pub spelled_good : (bytes : List ℕ) (C : List GroupData) → Spell bytes C → IsGood C
+spelled_good bytes C s =
+    let a = both_none (head_fault bytes) (option_or (option_or (groups_fault bytes) (rest_fault bytes)) (repeated_fault (groups_in bytes))) s.faultless in
+    let b = both_none (option_or (groups_fault bytes) (rest_fault bytes)) (repeated_fault (groups_in bytes)) a.1 in
+    let c = both_none (groups_fault bytes) (rest_fault bytes) b.0 in
+    let t = past_test (not (bytes_eq (take 8 bytes) group_tag)) Tag _ a.0 in
+    let u = past_test (nat_lt (length bytes) 16) (Truncated 8) None t.1 in
+    subst IsGood (sym s.is) (catalogue_good bytes (count_in bytes) (at_least (length bytes) 16 u.0) c.0 b.1)

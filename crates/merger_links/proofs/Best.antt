@@ -12,13 +12,13 @@ use Rattle.merger_links.specs.Links.{shared, IsBest, IsShared, IsDescendant, IsM
 use Rattle.merger_links.specs.Ties.{IsTie, AreTies, IsMainOf, AreWithin, no_group}
 
 -- the group at a place
-abbrev at : List GroupData → ℕ → GroupData
+abbrev pub at : List GroupData → ℕ → GroupData
 at C k = get_or C k no_group
 
 label_at : (C : List GroupData) (k : ℕ) → k < length C → get_or (map (λ (g : GroupData). g.label) C) k 0 ≡ (at C k).label
 label_at C k l = get_or-map (λ (g : GroupData). g.label) C k no_group 0 l
 
-label_less : (C : List GroupData) (i j : ℕ) → IsGood C → i < j → j < length C → (at C i).label < (at C j).label
+pub label_less : (C : List GroupData) (i j : ℕ) → IsGood C → i < j → j < length C → (at C i).label < (at C j).label
 label_less C i j good h l =
     omega (arith, AllPairs-from_increasing (map (λ (g : GroupData). g.label) C) good.ascending i j 0 h (omega (arith, l, length-map C (λ (g : GroupData). g.label))), label_at C i (omega (arith, h, l)), label_at C j l)
 

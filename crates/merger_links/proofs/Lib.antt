@@ -2,3 +2,4 @@ pub mod Best
 pub mod Main
 pub mod Often
 pub mod Owned
+pub mod Unique

@@ -1,3 +1,4 @@
+pub mod Laws
 pub mod Links
 pub mod Owners
 pub mod Ties
