@@ -25,10 +25,10 @@ use Rattle.rank_laws.proofs.Counted.{sound, sum_range}
 use Rattle.rank_laws.proofs.Fairness.{in_order-same}
 use Rattle.rank_laws.proofs.Machine.{one_among, among_one}
 use Rattle.rank_exchange.specs.declared.keyed.Keyed.{Keyed}
-use Rattle.rank_exchange.specs.Came.{HasParts, PairsAreSmall, came, parts_came}
+use Rattle.rank_exchange.specs.Came.{HasParts, came, parts_came}
 use Rattle.rank_exchange.specs.Handed.{by_id}
 use Rattle.rank_exchange.specs.Keyed.{AreSums, IsLight, extent_at, sum_at}
-use Rattle.rank_exchange.specs.Moments.{Moment, state_at}
+use Rattle.rank_exchange.specs.Moments.{Moment, state_at, PairsAreSmall}
 use Rattle.rank_exchange.specs.Sums.{extent}
 use Rattle.rank_exchange.proofs.HomeMembers.{counted_among, touched_pair}
 use Rattle.rank_exchange.proofs.HomeTotals.{extent_sum, on_plus}
@@ -127,7 +127,7 @@ module _ (m : Moment) (own_parts others : List Given) (h : HasParts m own_parts 
   parts_light k =
       let few : ranks_of m.whole ≤ 256 = m.few in
       let le : sum_by (λ q. sum_by (size_at k) (parts_sent m.whole q m.rank)) (ranks m.whole) ≤ sum_by (λ (q : ℕ). 2 ^ 113) (ranks m.whole) =
-      sum_by-le-on (λ q. sum_by (size_at k) (parts_sent m.whole q m.rank)) (λ (q : ℕ). 2 ^ 113) (ranks m.whole) (λ q i. part_size m.whole m.is_whole h.small k q m.rank) in
+      sum_by-le-on (λ q. sum_by (size_at k) (parts_sent m.whole q m.rank)) (λ (q : ℕ). 2 ^ 113) (ranks m.whole) (λ q i. part_size m.whole m.is_whole m.small k q m.rank) in
       omega (
         arith,
         few,

@@ -138,7 +138,7 @@ module _ (m : Moment) (totals : List Summed) (kept : List Kept) (h : HasMembers 
     where
       one : (c : CellData) → IsBelow (2 ^ 112) (node_total m.whole.gravity m.whole.bodies c)
       one c =
-          let b : IsAtMost (length m.whole.bodies * 2 ^ 86) (node_total m.whole.gravity m.whole.bodies c) = node_bounded m.whole.gravity m.whole.bodies m.is_whole.bodies (2 ^ 86) h.small c in
+          let b : IsAtMost (length m.whole.bodies * 2 ^ 86) (node_total m.whole.gravity m.whole.bodies c) = node_bounded m.whole.gravity m.whole.bodies m.is_whole.bodies (2 ^ 86) m.small c in
           record { on_x = omega (arith, b.on_x, m.is_whole.bodies.valid.few); on_y = omega (arith, b.on_y, m.is_whole.bodies.valid.few); on_z = omega (arith, b.on_z, m.is_whole.bodies.valid.few) }
 
       each : (cs : List CellData) → AllByRecursion (λ (t : Summed). IsBelow (2 ^ 112) t.sum) (map (λ c. record { cell = c; sum = node_total m.whole.gravity m.whole.bodies c }) cs)

@@ -40,8 +40,8 @@ use Rattle.rank_laws.proofs.KeptOnce.{keeps_once, number-exact, times_all}
 use Rattle.rank_laws.proofs.Machine.{one_among, among_one}
 use Rattle.rank_curve_laws.specs.Along.{keys_along}
 use Rattle.rank_curve_laws.proofs.Keys.{one_order_of}
-use Rattle.rank_exchange.specs.Came.{HasSums, PairsAreSmall, came, home_totals, sums_came}
-use Rattle.rank_exchange.specs.Moments.{Moment, state_at}
+use Rattle.rank_exchange.specs.Came.{HasSums, came, home_totals, sums_came}
+use Rattle.rank_exchange.specs.Moments.{Moment, state_at, PairsAreSmall}
 use Rattle.rank_exchange.specs.Sums.{cells_in, extent, extent_at, totals_of, IsLight}
 use Rattle.rank_exchange.proofs.Totals.{total-permuted}
 
@@ -259,5 +259,5 @@ module _ (m : Moment) (own others : List Summed) (h : HasSums m own others) wher
     sum_by-cons (done_by m.whole c) m.rank (senders Sums (state_at m)),
     sum_by-IsPermutation (done_by m.whole c) (ranks m.whole) (m.rank ∷ senders Sums (state_at m)) from_all,
     all_counted m.whole m.is_whole (λ x. extent (force_on (pair_force m.whole.gravity m.whole.bodies) c x)),
-    all_small m.whole m.is_whole h.small c,
+    all_small m.whole m.is_whole m.small c,
   )

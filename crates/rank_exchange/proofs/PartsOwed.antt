@@ -45,71 +45,8 @@ use Rattle.rank_exchange.specs.Shares.{members_at, share_in, shared_in}
 use Rattle.rank_exchange.proofs.HomeMembers.{cells_are, kept_alike}
 use Rattle.rank_exchange.proofs.KeyedLists.{one_passing}
 use Rattle.rank_exchange.proofs.Totals.{total-permuted, sum_of-permuted}
+use Rattle.rank_exchange.proofs.RankKeys.{any_mapped, any_on, any_same, alike, both, swap, cond_total, key_of, same_keys, one_rank_keys, rank_in, id_in, in_two, low_small}
 use Rattle.rank_exchange.proofs.ShareSizes.{around, around_small, as_pos, one_at, true_total}
-
--- ---- lists and tests
-
-any_mapped : {X Y : Type 0} (t : Y → Bool) (f : X → Y) (xs : List X) → list_any t (map f xs) ≡ list_any (λ x. t (f x)) xs
-any_mapped t f [] = refl
-any_mapped t f (x ∷ xs) = ap (λ b. t (f x) || b) (any_mapped t f xs)
-
-any_on : {X : Type 0} (t u : X → Bool) (xs : List X) → ((x : X) → Among x xs → t x ≡ u x) → list_any t xs ≡ list_any u xs
-any_on t u [] e = refl
-any_on t u (x ∷ xs) e = ap (λ b. b || list_any t xs) (e x (inl refl)) ∙ ap (λ b. u x || b) (any_on t u xs (λ y i. e y (inr i)))
-
-any_same : {X : Type 0} (t u : X → Bool) (xs : List X) → ((x : X) → t x ≡ u x) → list_any t xs ≡ list_any u xs
-any_same t u xs e = any_on t u xs (λ x i. e x)
-
-alike : (a b : Bool) → (a ≡ true → b ≡ true) → (b ≡ true → a ≡ true) → a ≡ b
-alike true b f g = sym (f refl)
-alike false true f g = g refl
-alike false false f g = refl
-
-both : (a b : Bool) → (a && b) ≡ true → (a ≡ true) × (b ≡ true)
-both true b e = (refl, e)
-both false b e = absurd (false≢true e)
-
-swap : (p q : Bool) (v : ℤ) → cond p (cond q v (pos 0)) (pos 0) ≡ cond q (cond p v (pos 0)) (pos 0)
-swap true true v = refl
-swap true false v = refl
-swap false true v = refl
-swap false false v = refl
-
-cond_total : {X : Type 0} (b : Bool) (f : X → ℤ) (xs : List X) → total_by (λ x. cond b (f x) (pos 0)) xs ≡ cond b (total_by f xs) (pos 0)
-cond_total true f xs = refl
-cond_total false f xs = total-zero xs
-
--- ---- keys
-
-abbrev key_of : ℕ → ℕ → ℕ
-key_of q id = q * 2 ^ 64 + id
-
-same_keys : (p q a b : ℕ) → a < 2 ^ 64 → b < 2 ^ 64 → eqb (key_of p a) (key_of q b) ≡ (eqb p q && eqb a b)
-same_keys p q a b h k = by (eqb p q) (eqb a b) refl refl
-  where
-    by : (s t : Bool) → eqb p q ≡ s → eqb a b ≡ t → eqb (key_of p a) (key_of q b) ≡ (eqb p q && eqb a b)
-    by true true u v = eq-eqb (key_of p a) (key_of q b) (let e : p ≡ q = eqb-true p q u in let f : a ≡ b = eqb-true a b v in omega (arith, e, f)) ∙ sym (ap (λ x. x && eqb a b) u ∙ v)
-    by true false u v = ne_eqb (key_of p a) (key_of q b) (λ e. let f : p ≡ q = eqb-true p q u in eqb-false a b v (omega (arith, e, f))) ∙ sym (ap (λ x. x && eqb a b) u ∙ v)
-    by false t u v = ne_eqb (key_of p a) (key_of q b) (λ e. eqb-false p q u (omega (arith, e, h, k))) ∙ sym (ap (λ x. x && eqb a b) u)
-
-one_rank_keys : (q a b : ℕ) → eqb (key_of q a) (key_of q b) ≡ eqb a b
-one_rank_keys q a b = by (eqb a b) refl
-  where
-    by : (t : Bool) → eqb a b ≡ t → eqb (key_of q a) (key_of q b) ≡ eqb a b
-    by true v = eq-eqb (key_of q a) (key_of q b) (let f : a ≡ b = eqb-true a b v in omega (arith, f)) ∙ sym v
-    by false v = ne_eqb (key_of q a) (key_of q b) (λ e. eqb-false a b v (omega (arith, e))) ∙ sym v
-
-rank_in : (q id : ℕ) → id < 2 ^ 64 → key_of q id / 2 ^ 64 ≡ q
-rank_in q id h = omega (arith, h)
-
-id_in : (q id : ℕ) → id < 2 ^ 64 → key_of q id % 2 ^ 64 ≡ id
-id_in q id h = omega (arith, h)
-
-in_two : (k q : ℕ) → k / 2 ^ 64 ≡ q → k ≡ key_of q (k % 2 ^ 64)
-in_two k q e = omega (arith, e)
-
-low_small : (k : ℕ) → k % 2 ^ 64 < 2 ^ 64
-low_small k = omega arith
 
 -- ---- all ranks
 
@@ -436,7 +373,7 @@ module _ (m : Moment) (totals : List Summed) (kept : List Kept) (h : HasMembers 
             ∙ total-pos (λ b. cond (eqb id b.id) (around m.whole m.rank b) 0) (own m.whole q) in
             let le : sum_by (λ b. cond (eqb id b.id) (around m.whole m.rank b) 0) (own m.whole q) ≤ 2 ^ 113 =
             one_at id (2 ^ 113) (around m.whole m.rank) (own m.whole q) (ascending-filter (λ (b : BodyData). eqb (m.whole.owner b.id) q) m.whole.bodies (ascending-from m.whole.bodies m.is_whole.bodies.valid.ascending)) (λ b i.
-            around_small m.whole m.is_whole h.small m.rank low_wanted b (among-kept (λ (b : BodyData). eqb (m.whole.owner b.id) q) b m.whole.bodies i).0) in
+            around_small m.whole m.is_whole m.small m.rank low_wanted b (among-kept (λ (b : BodyData). eqb (m.whole.owner b.id) q) b m.whole.bodies i).0) in
             omega (arith, ints, e, le)
 
     pub shares_light : (shares : List Keyed) → IsPermutation (map (shared_in totals kept) kept) shares → IsLight shares

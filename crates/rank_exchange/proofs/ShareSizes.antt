@@ -26,7 +26,7 @@ use Rattle.rank_laws.proofs.Collecting.{shares_alike, times_wanted}
 use Rattle.rank_laws.proofs.Homing.{homes_have}
 use Rattle.rank_laws.proofs.KeptOnce.{number-exact, times_range}
 use Rattle.rank_laws.proofs.Machine.{among_one}
-use Rattle.rank_exchange.specs.Came.{PairsAreSmall}
+use Rattle.rank_exchange.specs.Moments.{PairsAreSmall}
 use Rattle.rank_exchange.specs.Sums.{extent}
 use Rattle.rank_exchange.proofs.OwnMembers.{less_kept}
 use Rattle.rank_exchange.proofs.HomeTotals.{counted_times, most_of, wanted_home}

@@ -1,15 +1,13 @@
 -- What came to a rank by a moment, and what it makes of that.
-use Rattle.std.specs.Prelude.{◌≡◌, ◌^◌, ◌≤◌, ◌<◌, ℕ, true, List, ◌∷◌, map, reverse}
+use Rattle.std.specs.Prelude.{◌≡◌, ◌≤◌, ◌<◌, ℕ, true, List, ◌∷◌, map, reverse}
 use Rattle.std.specs.List.{AllByRecursion, flat_map}
-use Rattle.fixed_point.specs.Vectors.{IsAtMost}
 use Rattle.nbody_model.specs.Bodies.{BodyData}
-use Rattle.nbody_model.specs.Covers.{interactions}
-use Rattle.nbody_model.specs.Force.{node_total, pair_force}
+use Rattle.nbody_model.specs.Force.{node_total}
 use Rattle.nbody_model.specs.Setups.{IsSetup}
 use Rattle.model_laws.specs.Laws.{CorrectsLittle}
 use Rattle.hilbert_keys.specs.Curve.{IsCell}
 use Rattle.rank_laws.specs.Machine.{Kind, Sums, Members, Parts, Rank, has_all}
-use Rattle.rank_laws.specs.Whole.{Whole, IsWhole, opening, ranks_of, rules_of}
+use Rattle.rank_laws.specs.Whole.{Whole, IsWhole, ranks_of, rules_of}
 use Rattle.rank_laws.specs.Contents.{Given, Summed, Listed, sums_sent, members_sent, parts_sent, wanted}
 use Rattle.rank_laws.specs.Kept.{given_up, senders}
 use Rattle.rank_exchange.specs.declared.shares.Kept.{Kept}
@@ -17,7 +15,7 @@ use Rattle.rank_exchange.specs.declared.keyed.Keyed.{Keyed}
 use Rattle.rank_exchange.specs.Handed.{handed_to}
 use Rattle.rank_exchange.specs.Keyed.{sum_at}
 use Rattle.rank_exchange.specs.Sums.{Climbs, cells_in}
-use Rattle.rank_exchange.specs.Moments.{Moment, state_at}
+use Rattle.rank_exchange.specs.Moments.{Moment, PairsAreSmall, state_at}
 
 -- the senders of a kind, the first first
 abbrev pub came : Kind → Rank → List ℕ
@@ -31,10 +29,6 @@ sums_came m = flat_map (λ q. sums_sent m.whole q m.rank) (came Sums (state_at m
 abbrev pub home_totals : Whole → ℕ → List Summed
 home_totals w h = map (λ c. record { cell = c; sum = node_total w.gravity w.bodies c }) (wanted w h)
 
--- no force of an interaction is above 2^86
-abbrev pub PairsAreSmall : Whole → Type 0
-PairsAreSmall w = AllByRecursion (λ x. IsAtMost (2 ^ 86) (pair_force w.gravity w.bodies x)) (interactions (opening w))
-
 -- over bodies and a setup within their limits that holds
 abbrev pub KeepsPairsSmall : Type 0
 KeepsPairsSmall = (w : Whole) → IsWhole w → IsSetup w.gravity.setup → AllByRecursion (λ b. b.kind ≤ 5) w.bodies → CorrectsLittle w.gravity.table → PairsAreSmall w
@@ -44,7 +38,6 @@ pub record HasSums (m : Moment) (own others : List Summed) : Type 0 where
   pub all : has_all (rules_of m.whole) Sums m.rank (state_at m) ≡ true
   pub itself : own ≡ sums_sent m.whole m.rank m.rank
   pub came : others ≡ sums_came m
-  pub small : PairsAreSmall m.whole
 
 -- a member of a cell with the rank from which it came
 abbrev pub kept_from : ℕ → Listed → Kept
@@ -61,7 +54,6 @@ pub record HasMembers (m : Moment) (totals : List Summed) (kept : List Kept) : T
   pub climbs : Climbs (cells_in totals)
   pub boxed : AllByRecursion IsCell (cells_in totals)
   pub kept_are : kept ≡ members_kept m
-  pub small : PairsAreSmall m.whole
 
 -- from these sums by rank and id each rank gets the parts that the home owes to it
 abbrev pub HandsOut : Moment → List Keyed → Type 0
@@ -76,7 +68,6 @@ pub record HasParts (m : Moment) (own others : List Given) : Type 0 where
   pub all : has_all (rules_of m.whole) Parts m.rank (state_at m) ≡ true
   pub itself : own ≡ parts_sent m.whole m.rank m.rank
   pub came : others ≡ parts_came m
-  pub small : PairsAreSmall m.whole
 
 -- at the id of each body stands what the rank has for it
 abbrev pub GivesUp : Moment → List Keyed → Type 0

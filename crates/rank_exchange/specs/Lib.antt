@@ -6,3 +6,7 @@ pub mod Members
 pub mod Keyed
 pub mod Shares
 pub mod Handed
+pub mod Posts
+pub mod Built
+pub mod Walks
+pub mod Ranks

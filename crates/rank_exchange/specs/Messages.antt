@@ -1,9 +1,10 @@
 -- What messages are to a contract: kind, sender, receiver and contents.
-use Rattle.std.specs.Prelude.{ℕ}
+use Rattle.std.specs.Prelude.{◌≡◌, ◌<◌, ℕ, List, map}
+use Rattle.std.specs.List.{AllByRecursion}
 use Rattle.cell_space.specs.Cells.{CellData}
 use Rattle.nbody_model.specs.declared.field.EventKind.{EventKind}
-use Rattle.rank_laws.specs.Machine.{Message, Reply}
-use Rattle.rank_laws.specs.Whole.{Whole}
+use Rattle.rank_laws.specs.Machine.{Kind, Message, Reply, message}
+use Rattle.rank_laws.specs.Whole.{Whole, ranks_of}
 use Rattle.rank_laws.specs.Contents.{Contents, OfTable, OfSums, OfWant, OfMembers, OfParts, OfAsk, OfReply, contents}
 use Rattle.rank_laws.specs.Told.{told_kind}
 use Rattle.rank_exchange.specs.declared.contents.Load.{Load}
@@ -19,6 +20,14 @@ pub record MessageData : Type 0 where
 -- a message of the machine with its contents, which the whole fixes
 abbrev pub filled : Whole → Message → MessageData
 filled w m = record { kind = told_kind m.kind; from = m.from; to = m.to; contents = contents w m }
+
+-- one message of a kind from a rank to each of some others
+abbrev pub AreToEach : Whole → Kind → ℕ → List ℕ → List MessageData → Type 0
+AreToEach w k r to out = out ≡ map (λ q. filled w (message k r q)) to
+
+-- ranks that there are
+abbrev pub AreRanks : Whole → List ℕ → Type 0
+AreRanks w to = AllByRecursion (λ q. q < ranks_of w) to
 
 -- the answer of a home to a rank that asks for a cell
 abbrev pub reply_to : ℕ → ℕ → CellData → Message

@@ -101,7 +101,7 @@ fn cell_of(total: &Summed) -> Cell
 }
 
 /// The cells of totals.
-fn cells_of(alloc: Global, totals: &[Summed]) -> Result<Vec<Cell>, Memory>
+pub(crate) fn cells_of(alloc: Global, totals: &[Summed]) -> Result<Vec<Cell>, Memory>
     ensures { IfOk result (λ cells. cells.items ≡ cells_in totals.now) }
 {
     let mut cells = Vec::with_capacity(alloc, totals.len())?;
