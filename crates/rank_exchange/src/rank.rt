@@ -108,7 +108,7 @@ impl Rank {
     }
 
     /// Whether it knows the cells of its home: it has built and has the entries of all others.
-    pub(crate) fn is_ready(&self) -> bool
+    pub fn is_ready(&self) -> bool
         ensures { (m : Moment) → IsAt m self.now → result ≡ ready (rules_of m.whole) m.rank (state_at m) }
     {
         both(self.built, self.due.tables == 0)
