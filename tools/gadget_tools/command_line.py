@@ -338,7 +338,7 @@ def add_plots(words):
     picture("kicks", "the kick file: bins used, interactions, and the total momentum as a flat line", do_plot_kicks, "KICKS")
     parser = picture("pairs", "pair counts by distance, from what `gadget pairs` is to print (not built yet)", do_plot_pairs, "TEXT")
     parser.add_argument("--first", type=whole(1, 1 << 31), required=True, help="the outer edge of the first shell in length units")
-    parser = picture("groups", "groups, from a catalogue of `gadget groups` (not built yet) and its snapshot", do_plot_groups, "CATALOGUE")
+    parser = picture("groups", "groups, from a catalogue of `gadget groups` and its snapshot", do_plot_groups, "CATALOGUE")
     parser.add_argument("snapshot", metavar="SNAP")
     parser.add_argument("--axis", choices=tuple("xyz"), default="z", help="look along this axis (default z)")
 

@@ -269,7 +269,7 @@ def read_bins(path):
 
 
 def read_catalogue(path):
-    """Groups of friends of friends. The command that writes such files isn't built yet; this is their form."""
+    """Groups of friends of friends, as `gadget groups` writes them."""
     name, data = str(path), read_bytes(path)
     if data[:8] != GROUPS_TAG:
         raise Fault(name, "byte 0", "it doesn't begin with I4GROUPS: no catalogue")

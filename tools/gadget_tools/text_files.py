@@ -195,7 +195,7 @@ def read_shells(path):
 
 
 def read_links(path):
-    """(label, descendant or None, shared, main) for each line. The command that writes it isn't built yet."""
+    """(label, descendant or None, shared, main) for each line, as `gadget links` writes them."""
     name, text = lines_of(path)
     links = []
     for line, content in enumerate(text.split("\n")[:-1], 1):
@@ -209,7 +209,7 @@ def read_links(path):
 
 
 def read_trace(path):
-    """The events of each force: (number of bodies, [(kind, numbers ..), ..]). Ranks above 1 aren't built yet."""
+    """The events of each force: (number of bodies, [(kind, numbers ..), ..])."""
     name, text = lines_of(path)
     forces = []
     for line, content in enumerate(text.split("\n")[:-1], 1):

@@ -2,7 +2,7 @@
 use Rattle.std.proofs.Common.{◌≡◌, ℕ, IsTrue, List, subst}
 use Rattle.snap_file.specs.Snapshots.{IsSnapshotFault}
 use Rattle.gadget.specs.declared.status.Status.{Status}
-use Rattle.gadget.specs.declared.status.Status.TheVariants.{Done, Stopped, Usage, Memory, ReadFault, WriteFault, ConsoleFault, Absent, TooLong, NotBuilt, Param, Outputs, Table, Snapshot, Restart, Differs, Expansion, MomRange, StepRange}
+use Rattle.gadget.specs.declared.status.Status.TheVariants.{Done, Stopped, Usage, Memory, ReadFault, WriteFault, ConsoleFault, Absent, TooLong, Param, Outputs, Table, Snapshot, Restart, Differs, Expansion, Catalogue, MomRange, StepRange}
 use Rattle.gadget.specs.Reads.{Seen, WasRead}
 use Rattle.gadget.specs.Snapshots.{SnapshotAnswer, SnapshotRefusal, longest_snapshot}
 
@@ -17,12 +17,12 @@ snapshot_refused s name bytes read (WriteFault n) e w a = absurd a
 snapshot_refused s name bytes read ConsoleFault e w a = absurd a
 snapshot_refused s name bytes read (Absent n) e w a = absurd a
 snapshot_refused s name bytes read (TooLong n len) e w a = absurd a
-snapshot_refused s name bytes read NotBuilt e w a = absurd a
 snapshot_refused s name bytes read (Param err) e w a = absurd a
 snapshot_refused s name bytes read (Outputs err) e w a = absurd a
 snapshot_refused s name bytes read (Table err) e w a = absurd a
 snapshot_refused s name bytes read (Restart err) e w a = absurd a
 snapshot_refused s name bytes read (Differs row) e w a = absurd a
+snapshot_refused s name bytes read (Catalogue n kind) e w a = absurd a
 snapshot_refused s name bytes read (Expansion err) e w a = absurd a
 snapshot_refused s name bytes read (MomRange tick bin id axis) e w a = absurd a
 snapshot_refused s name bytes read (StepRange tick id) e w a = absurd a

@@ -13,16 +13,17 @@ use Rattle.gadget.specs.Restarts.{NamesState, DiffersIn, RestartRefusal}
 use Rattle.gadget.specs.Begins.{RunRefusal, ResumeRefusal}
 use Rattle.gadget.proofs.Stages.{seen, seen_is, held}
 
-pub bodies_refused : (t t1 : Bool) (d d1 : Files) (n n1 now : ℕ) (last : Option Call) (name : List ℕ) (i : InputsData) (status : Status)
-    → t1 ≡ t → d1 ≡ d → n1 ≡ n
+pub bodies_refused : (t t1 : Bool) (d d1 : Files) (n n1 now : ℕ) (last : Option Call) (name read : List ℕ) (i : InputsData) (status : Status)
+    → t1 ≡ t → d1 ≡ d → n1 ≡ n → read ≡ i.params.init_cond_file
     → (IsTrue t → Accepts d name i)
-    → SnapshotRefusal (seen t1 d1 n1 now last) i.params.init_cond_file status
+    → SnapshotRefusal (seen t1 d1 n1 now last) read status
     → RunRefusal (seen t d n now last) name status
-bodies_refused t t1 d d1 n n1 now last name i status a b c accepted refused =
+bodies_refused t t1 d d1 n n1 now last name read i status a b c e accepted refused =
     inr (record {
       inputs = i;
       accepted = accepted;
-      refused = subst (λ (s : Seen). SnapshotRefusal s i.params.init_cond_file status) (seen_is t1 t d1 d n1 n now last a b c) refused;
+      refused = subst (λ (s : Seen). SnapshotRefusal s i.params.init_cond_file status) (seen_is t1 t d1 d n1 n now last a b c)
+          (subst (λ (r : List ℕ). SnapshotRefusal (seen t1 d1 n1 now last) r status) e refused);
     })
 
 pub state_refused : (t t1 : Bool) (d d1 : Files) (n n1 now : ℕ) (last : Option Call) (name restart : List ℕ) (i : InputsData) (status : Status)

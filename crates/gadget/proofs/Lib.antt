@@ -3,6 +3,7 @@ pub mod Joins
 pub mod Stages
 pub mod LastTicks
 pub mod SoundTables
+pub mod SameRun
 pub mod Begun
 pub mod Plain
 pub mod Answered
@@ -16,6 +17,17 @@ pub mod OneList
 pub mod OneFile
 pub mod OneReading
 pub mod OneMaking
+pub mod Sizes
+pub mod OnePut
+pub mod OneCatalogue
+pub mod OneGrouping
+pub mod OneLinking
 pub mod OneAnswer
 pub mod OneEnd
+pub mod OneCall
+pub mod Kicks
+pub mod NumberedOnce
+pub mod Finishing
+pub mod Leading
+pub mod LedEnd
 pub mod Resumes

@@ -1,5 +1,5 @@
 -- One file is refused in one way at most, or gives one value.
-use Rattle.std.proofs.Common.{◌≡◌, ◌⊎◌, ◌<◌, ℕ, Bool, true, false, IsTrue, List, length, Option, Some, None, inl, inr, refl, sym, ap, ◌∙◌, arith}
+use Rattle.std.proofs.Common.{◌≡◌, ◌⊎◌, ◌<◌, ℕ, IsTrue, List, length, Option, Some, None, inl, inr, refl, sym, ap, ◌∙◌, arith}
 use Rattle.store_io.specs.Files.{Files}
 use Rattle.text_words.specs.Comments.{lines_in}
 use Rattle.nbody_model.specs.Tables.{TableData, ExpansionData}
@@ -7,10 +7,10 @@ use Rattle.param_file.specs.Settings.{ParamsData}
 use Rattle.ewald_table.specs.TableFile.{Spell as SpellTable}
 use Rattle.snap_file.specs.Snapshots.{SpellsSnapshot}
 use Rattle.gadget.specs.declared.status.Status.{Status}
-use Rattle.gadget.specs.declared.status.Status.TheVariants.{Done, Stopped, Usage, Memory, ReadFault, WriteFault, ConsoleFault, Absent, TooLong, NotBuilt, Param, Outputs, Table, Snapshot, Restart, Differs, Expansion, MomRange, StepRange}
+use Rattle.gadget.specs.declared.status.Status.TheVariants.{Done, Stopped, Usage, Memory, ReadFault, WriteFault, ConsoleFault, Absent, TooLong, Param, Outputs, Table, Snapshot, Restart, Differs, Expansion, Catalogue, MomRange, StepRange}
 use Rattle.gadget.specs.Decided.{IsDecided}
 use Rattle.gadget.specs.Reads.{Seen, WasRead, FileSpells, IsLong, NotRead}
-use Rattle.gadget.specs.Inputs.{SpellsParams, IsBadParams, ParamRefusal, SpellsTimes, GivesTimes, ListRefusal, NamedListRefusal, asks_unbuilt, longest_list, longest_parameters}
+use Rattle.gadget.specs.Inputs.{SpellsParams, IsBadParams, ParamRefusal, SpellsTimes, GivesTimes, ListRefusal, NamedListRefusal, longest_list, longest_parameters}
 use Rattle.gadget.specs.Tables.{GivesTable, NamedTableRefusal, TableRefusal, longest_table}
 use Rattle.gadget.specs.Factors.{SpellsFactors, GivesFactors, NamedFactorsRefusal, FactorsRefusal}
 use Rattle.gadget.specs.Snapshots.{SnapshotRefusal, longest_snapshot}
@@ -79,7 +79,7 @@ file_exact {F} {V} files name limit Fault Spells called h =
     }
 
 -- why a file wasn't read, where that is decided
-not_read : (s : Seen) (name : List ℕ) (limit : ℕ) → IsTrue s.tells → (status : Status) → IsDecided status → NotRead s name limit status → NotThere s.files name limit status
+pub not_read : (s : Seen) (name : List ℕ) (limit : ℕ) → IsTrue s.tells → (status : Status) → IsDecided status → NotRead s name limit status → NotThere s.files name limit status
 not_read s name limit t Done d r = absurd r
 not_read s name limit t (Stopped a b) d r = absurd d
 not_read s name limit t Usage d r = absurd r
@@ -89,13 +89,13 @@ not_read s name limit t (WriteFault a) d r = absurd d
 not_read s name limit t ConsoleFault d r = absurd d
 not_read s name limit t (Absent a) d r = inl (record { none = r.1 t; is = ap Absent r.0 })
 not_read s name limit t (TooLong a b) d r = inr (record { len = b; over = r.1; long = r.2 t; is = ap (λ n. TooLong n b) r.0 })
-not_read s name limit t NotBuilt d r = absurd r
 not_read s name limit t (Param a) d r = absurd r
 not_read s name limit t (Outputs a) d r = absurd r
 not_read s name limit t (Table a) d r = absurd r
 not_read s name limit t (Snapshot a) d r = absurd r
 not_read s name limit t (Restart a) d r = absurd r
 not_read s name limit t (Differs a) d r = absurd r
+not_read s name limit t (Catalogue n e) d r = absurd r
 not_read s name limit t (Expansion a) d r = absurd r
 not_read s name limit t (MomRange a b c axis) d r = absurd r
 not_read s name limit t (StepRange a b) d r = absurd r
@@ -105,25 +105,11 @@ not_read s name limit t (StepRange a b) d r = absurd r
 abbrev pub ParamsRefuse : Files → List ℕ → Status → Type 0
 ParamsRefuse files name = FileRefuses files name longest_parameters IsBadParams Param
 
--- the settings are read, and then they ask for what isn't built or don't
-abbrev pub Unbuilt : ParamsData → Status → Type 0
-Unbuilt p status = (status ≡ NotBuilt) × (asks_unbuilt p ≡ true)
-
 pub params_file : (files : Files) (name : List ℕ) → IsExact (ParamsRefuse files name) (FileSpells files name longest_parameters SpellsParams)
 params_file files name = file_exact files name longest_parameters IsBadParams SpellsParams Param (λ bytes. params_exact (lines_in bytes))
 
-pub unbuilt_exact : (p : ParamsData) → IsExact (Unbuilt p) (λ (u : Unit {0}). asks_unbuilt p ≡ false)
-unbuilt_exact p = record {
-  one_refusal = λ a b f g. f.0 ∙ sym g.0;
-  one_value = λ u v f g. refl;
-  apart = λ a u f g. no_both (asks_unbuilt p) f.1 g;
-}
-  where
-    no_both : (b : Bool) → b ≡ true → b ≡ false → ⊥
-    no_both b e f = cc
-
 abbrev pub ParamStage : Files → List ℕ → (ParamsData → Status → Type 0) → Status → Type 0
-ParamStage files name Next = Either (ParamsRefuse files name) (FileSpells files name longest_parameters SpellsParams) (λ p. Either (Unbuilt p) (λ (u : Unit {0}). asks_unbuilt p ≡ false) (λ u. Next p))
+ParamStage files name Next = Either (ParamsRefuse files name) (FileSpells files name longest_parameters SpellsParams) Next
 
 pub params_refused : (s : Seen) (name : List ℕ) (Next : ParamsData → Status → Type 0) → IsTrue s.tells → (status : Status) → IsDecided status → ParamRefusal s name status → ParamStage s.files name Next status
 params_refused s name Next t Done d r = absurd r
@@ -135,13 +121,13 @@ params_refused s name Next t (WriteFault a) d r = absurd d
 params_refused s name Next t ConsoleFault d r = absurd d
 params_refused s name Next t (Absent a) d r = inl (inl (not_read s name longest_parameters t (Absent a) d r))
 params_refused s name Next t (TooLong a b) d r = inl (inl (not_read s name longest_parameters t (TooLong a b) d r))
-params_refused s name Next t NotBuilt d r = let f = r t in inr (f.params, f.named, inl (refl, f.unbuilt))
 params_refused s name Next t (Param a) d r = let f = r.1 t in inl (inr (f.bytes, f.read, (a, refl, f.fault)))
 params_refused s name Next t (Outputs a) d r = absurd r
 params_refused s name Next t (Table a) d r = absurd r
 params_refused s name Next t (Snapshot a) d r = absurd r
 params_refused s name Next t (Restart a) d r = absurd r
 params_refused s name Next t (Differs a) d r = absurd r
+params_refused s name Next t (Catalogue n e) d r = absurd r
 params_refused s name Next t (Expansion a) d r = absurd r
 params_refused s name Next t (MomRange a b c axis) d r = absurd r
 params_refused s name Next t (StepRange a b) d r = absurd r
@@ -166,13 +152,13 @@ named_list_refused s name t (WriteFault a) d r = absurd d
 named_list_refused s name t ConsoleFault d r = absurd d
 named_list_refused s name t (Absent a) d r = inl (not_read s name longest_list t (Absent a) d r)
 named_list_refused s name t (TooLong a b) d r = inl (not_read s name longest_list t (TooLong a b) d r)
-named_list_refused s name t NotBuilt d r = absurd r
 named_list_refused s name t (Param a) d r = absurd r
 named_list_refused s name t (Outputs a) d r = let f = r.1 t in inr (f.bytes, f.read, (a, refl, record { plain = r.0; fault = f.fault }))
 named_list_refused s name t (Table a) d r = absurd r
 named_list_refused s name t (Snapshot a) d r = absurd r
 named_list_refused s name t (Restart a) d r = absurd r
 named_list_refused s name t (Differs a) d r = absurd r
+named_list_refused s name t (Catalogue n e) d r = absurd r
 named_list_refused s name t (Expansion a) d r = absurd r
 named_list_refused s name t (MomRange a b c axis) d r = absurd r
 named_list_refused s name t (StepRange a b) d r = absurd r
@@ -215,13 +201,13 @@ named_table_refused s name t (WriteFault a) d r = absurd d
 named_table_refused s name t ConsoleFault d r = absurd d
 named_table_refused s name t (Absent a) d r = inl (not_read s name longest_table t (Absent a) d r)
 named_table_refused s name t (TooLong a b) d r = inl (not_read s name longest_table t (TooLong a b) d r)
-named_table_refused s name t NotBuilt d r = absurd r
 named_table_refused s name t (Param a) d r = absurd r
 named_table_refused s name t (Outputs a) d r = absurd r
 named_table_refused s name t (Table a) d r = let f = r.1 t in inr (f.bytes, f.read, (a, refl, record { plain = r.0; fault = f.fault }))
 named_table_refused s name t (Snapshot a) d r = absurd r
 named_table_refused s name t (Restart a) d r = absurd r
 named_table_refused s name t (Differs a) d r = absurd r
+named_table_refused s name t (Catalogue n e) d r = absurd r
 named_table_refused s name t (Expansion a) d r = absurd r
 named_table_refused s name t (MomRange a b c axis) d r = absurd r
 named_table_refused s name t (StepRange a b) d r = absurd r
@@ -267,13 +253,13 @@ named_factors_refused s last name t (WriteFault a) d r = absurd d
 named_factors_refused s last name t ConsoleFault d r = absurd d
 named_factors_refused s last name t (Absent a) d r = inl (not_read s name longest_table t (Absent a) d r)
 named_factors_refused s last name t (TooLong a b) d r = inl (not_read s name longest_table t (TooLong a b) d r)
-named_factors_refused s last name t NotBuilt d r = absurd r
 named_factors_refused s last name t (Param a) d r = absurd r
 named_factors_refused s last name t (Outputs a) d r = absurd r
 named_factors_refused s last name t (Table a) d r = absurd r
 named_factors_refused s last name t (Snapshot a) d r = absurd r
 named_factors_refused s last name t (Restart a) d r = absurd r
 named_factors_refused s last name t (Differs a) d r = absurd r
+named_factors_refused s last name t (Catalogue n e) d r = absurd r
 named_factors_refused s last name t (Expansion a) d r = let f = r.1 t in inr (f.bytes, f.read, (a, refl, record { plain = r.0; fault = f.fault }))
 named_factors_refused s last name t (MomRange a b c axis) d r = absurd r
 named_factors_refused s last name t (StepRange a b) d r = absurd r
@@ -300,13 +286,13 @@ snapshot_refused s name t (WriteFault a) d r = absurd d
 snapshot_refused s name t ConsoleFault d r = absurd d
 snapshot_refused s name t (Absent a) d r = inl (not_read s name longest_snapshot t (Absent a) d r)
 snapshot_refused s name t (TooLong a b) d r = inl (not_read s name longest_snapshot t (TooLong a b) d r)
-snapshot_refused s name t NotBuilt d r = absurd r
 snapshot_refused s name t (Param a) d r = absurd r
 snapshot_refused s name t (Outputs a) d r = absurd r
 snapshot_refused s name t (Table a) d r = absurd r
 snapshot_refused s name t (Snapshot a) d r = let f = r.1 t in inr (f.bytes, f.read, (a, refl, record { plain = r.0; fault = f.fault }))
 snapshot_refused s name t (Restart a) d r = absurd r
 snapshot_refused s name t (Differs a) d r = absurd r
+snapshot_refused s name t (Catalogue n e) d r = absurd r
 snapshot_refused s name t (Expansion a) d r = absurd r
 snapshot_refused s name t (MomRange a b c axis) d r = absurd r
 snapshot_refused s name t (StepRange a b) d r = absurd r
@@ -329,13 +315,13 @@ restart_refused s name t (WriteFault a) d r = absurd d
 restart_refused s name t ConsoleFault d r = absurd d
 restart_refused s name t (Absent a) d r = inl (not_read s name longest_restart t (Absent a) d r)
 restart_refused s name t (TooLong a b) d r = inl (not_read s name longest_restart t (TooLong a b) d r)
-restart_refused s name t NotBuilt d r = absurd r
 restart_refused s name t (Param a) d r = absurd r
 restart_refused s name t (Outputs a) d r = absurd r
 restart_refused s name t (Table a) d r = absurd r
 restart_refused s name t (Snapshot a) d r = absurd r
 restart_refused s name t (Restart a) d r = let f = r.1 t in inr (f.bytes, f.read, (a, refl, record { plain = r.0; fault = f.fault }))
 restart_refused s name t (Differs a) d r = absurd r
+restart_refused s name t (Catalogue n e) d r = absurd r
 restart_refused s name t (Expansion a) d r = absurd r
 restart_refused s name t (MomRange a b c axis) d r = absurd r
 restart_refused s name t (StepRange a b) d r = absurd r

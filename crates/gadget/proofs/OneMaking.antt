@@ -6,9 +6,9 @@ use Rattle.run_session.specs.Worlds.{World}
 use Rattle.made_bodies.specs.Drawn.{drawn_bodies}
 use Rattle.made_bodies.specs.Made.{AreMade, FileData, settings_file, snapshot_file}
 use Rattle.gadget.specs.declared.status.Status.{Status}
-use Rattle.gadget.specs.declared.status.Status.TheVariants.{Done, Stopped, Usage, Memory, ReadFault, WriteFault, ConsoleFault, Absent, TooLong, NotBuilt, Param, Outputs, Table, Snapshot, Restart, Differs, Expansion, MomRange, StepRange}
+use Rattle.gadget.specs.declared.status.Status.TheVariants.{Done, Stopped, Usage, Memory, ReadFault, WriteFault, ConsoleFault, Absent, TooLong, Param, Outputs, Table, Snapshot, Restart, Differs, Expansion, Catalogue, MomRange, StepRange}
 use Rattle.gadget.specs.declared.outcome.Outcome.{Outcome}
-use Rattle.gadget.specs.declared.outcome.Outcome.TheVariants.{Ran, Checked, Shown, Made, Refused}
+use Rattle.gadget.specs.declared.outcome.Outcome.TheVariants.{Ran, Checked, Shown, Made, Grouped, Linked, Refused}
 use Rattle.gadget.specs.Outcomes.{status_of, text_of}
 use Rattle.gadget.specs.Decided.{IsDecided, IsOneAnswer}
 use Rattle.gadget.specs.Making.{MakeDoes, MakeRefusal}
@@ -26,13 +26,13 @@ undecided A Z name (ReadFault n) h d = h
 undecided A Z name ConsoleFault h d = h
 undecided A Z name (Absent n) h d = h
 undecided A Z name (TooLong n len) h d = h
-undecided A Z name NotBuilt h d = h
 undecided A Z name (Param err) h d = h
 undecided A Z name (Outputs err) h d = h
 undecided A Z name (Table err) h d = h
 undecided A Z name (Snapshot err) h d = h
 undecided A Z name (Restart err) h d = h
 undecided A Z name (Differs row) h d = h
+undecided A Z name (Catalogue n e) h d = h
 undecided A Z name (Expansion err) h d = h
 undecided A Z name (MomRange tick bin id axis) h d = h
 undecided A Z name (StepRange tick id) h d = h
@@ -60,6 +60,10 @@ make_one A Y B Z count seed name (Refused a) q same h k i j = absurd (undecided 
 make_one A Y B Z count seed name (Ran e s) q same h k i j = absurd h
 make_one A Y B Z count seed name (Checked C) q same h k i j = absurd h
 make_one A Y B Z count seed name (Shown head C) q same h k i j = absurd h
+make_one A Y B Z count seed name (Grouped x y) q same h k i j = absurd h
+make_one A Y B Z count seed name (Linked x) q same h k i j = absurd h
 make_one A Y B Z count seed name (Made n a) (Ran e s) same h k i j = absurd k
 make_one A Y B Z count seed name (Made n a) (Checked C) same h k i j = absurd k
 make_one A Y B Z count seed name (Made n a) (Shown head C) same h k i j = absurd k
+make_one A Y B Z count seed name (Made n a) (Grouped x y) same h k i j = absurd k
+make_one A Y B Z count seed name (Made n a) (Linked x) same h k i j = absurd k

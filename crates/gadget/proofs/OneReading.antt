@@ -14,14 +14,14 @@ use Rattle.gadget.specs.declared.status.Status.{Status}
 use Rattle.gadget.specs.declared.status.Status.TheVariants.{Differs}
 use Rattle.gadget.specs.Decided.{IsDecided}
 use Rattle.gadget.specs.Reads.{Seen, FileSpells}
-use Rattle.gadget.specs.Inputs.{InputsData, SpellsParams, Accepts, FirstRefusal, GivesTimes, asks_unbuilt, longest_parameters}
+use Rattle.gadget.specs.Inputs.{InputsData, SpellsParams, Accepts, FirstRefusal, GivesTimes, longest_parameters}
 use Rattle.gadget.specs.Tables.{GivesTable}
 use Rattle.gadget.specs.Factors.{GivesFactors}
 use Rattle.gadget.specs.Snapshots.{longest_snapshot}
 use Rattle.gadget.specs.Restarts.{SpellsState, DiffersIn, longest_restart}
 use Rattle.gadget.specs.Begins.{BeginsWith, GoesOnFrom, ResumeRefusal, RunRefusal}
 use Rattle.gadget.proofs.Exact.{IsExact, Either, Both, both_exact}
-use Rattle.gadget.proofs.OneFile.{ParamStage, params_file, unbuilt_exact, params_refused, ListRefuses, list_file, list_refused, TableRefuses, table_file, table_refused, FactorsRefuse, factors_file, factors_refused, SnapshotRefuses, snapshot_file, snapshot_refused, RestartRefuses, restart_file, restart_refused}
+use Rattle.gadget.proofs.OneFile.{ParamStage, params_file, params_refused, ListRefuses, list_file, list_refused, TableRefuses, table_file, table_refused, FactorsRefuse, factors_file, factors_refused, SnapshotRefuses, snapshot_file, snapshot_refused, RestartRefuses, restart_file, restart_refused}
 
 -- ---- the parameter file, the list and the tables, and what is read behind them
 
@@ -54,55 +54,39 @@ TableGives {W} files Gives p times = Both (GivesTable files p.ewald_table_file) 
 abbrev ListGives : {W : Type 0} → Files → Giving W → ParamsData → List ℕ × (Option TableData × (Option ExpansionData × W)) → Type 0
 ListGives {W} files Gives p = Both (GivesTimes files p.output_list_filename) (λ times. TableGives files Gives p times)
 
-abbrev BuiltGives : {W : Type 0} → Files → Giving W → ParamsData → Unit {0} × (List ℕ × (Option TableData × (Option ExpansionData × W))) → Type 0
-BuiltGives {W} files Gives p = Both (λ (u : Unit {0}). asks_unbuilt p ≡ false) (λ u. ListGives files Gives p)
-
-abbrev pub AllGiven : {W : Type 0} → Files → List ℕ → Giving W → ParamsData × (Unit {0} × (List ℕ × (Option TableData × (Option ExpansionData × W)))) → Type 0
-AllGiven {W} files name Gives = Both (FileSpells files name longest_parameters SpellsParams) (λ p. BuiltGives files Gives p)
+abbrev pub AllGiven : {W : Type 0} → Files → List ℕ → Giving W → ParamsData × (List ℕ × (Option TableData × (Option ExpansionData × W))) → Type 0
+AllGiven {W} files name Gives = Both (FileSpells files name longest_parameters SpellsParams) (λ p. ListGives files Gives p)
 
 pub stages_exact : {W : Type 0} (files : Files) (name : List ℕ) (Next : Refusing) (Gives : Giving W) → ((p : ParamsData) (times : List ℕ) (table : Option TableData) (factors : Option ExpansionData) → IsExact (Next p times table factors) (Gives p times table factors)) → IsExact (Stages files name Next) (AllGiven files name Gives)
 stages_exact {W} files name Next Gives h =
     both_exact _ _ _ _ (params_file files name)
-    (λ p. both_exact _ _ _ _ (unbuilt_exact p)
-    (λ u. both_exact _ _ _ _ (list_file files p.output_list_filename)
+    (λ p. both_exact _ _ _ _ (list_file files p.output_list_filename)
     (λ times. both_exact _ _ _ _ (table_file files p.ewald_table_file)
     (λ table. both_exact _ _ _ _ (factors_file files (last_tick (setup_of p)) p.expansion_table_file)
-    (λ factors. h p times table factors)))))
+    (λ factors. h p times table factors))))
 
 -- what is refused behind inputs that are accepted
 pub behind : (files : Files) (name : List ℕ) (Next : Refusing) (i : InputsData) (status : Status) → Accepts files name i → Next i.params i.times i.table i.factors status → Stages files name Next status
 behind files name Next i status a n =
-    inr (i.params, a.params, inr (tt, a.built, inr (i.times, a.listed, inr (i.table, a.corrected, inr (i.factors, a.expanded, n)))))
+    inr (i.params, a.params, inr (i.times, a.listed, inr (i.table, a.corrected, inr (i.factors, a.expanded, n))))
 
-pub all_given : {W : Type 0} (files : Files) (name : List ℕ) (Gives : Giving W) (i : InputsData) (w : W) → Accepts files name i → Gives i.params i.times i.table i.factors w → AllGiven files name Gives (i.params, (tt, (i.times, (i.table, (i.factors, w)))))
-all_given {W} files name Gives i w a g = (a.params, (a.built, (a.listed, (a.corrected, (a.expanded, g)))))
+pub all_given : {W : Type 0} (files : Files) (name : List ℕ) (Gives : Giving W) (i : InputsData) (w : W) → Accepts files name i → Gives i.params i.times i.table i.factors w → AllGiven files name Gives (i.params, (i.times, (i.table, (i.factors, w))))
+all_given {W} files name Gives i w a g = (a.params, (a.listed, (a.corrected, (a.expanded, g))))
 
 pub first_refused : (s : Seen) (name : List ℕ) (Next : Refusing) → IsTrue s.tells → (status : Status) → IsDecided status → FirstRefusal s name status → Stages s.files name Next status
 first_refused s name Next t status d (inl r) = params_refused s name (λ p. ListStage s.files Next p) t status d r
 first_refused s name Next t status d (inr (inl r)) =
     let p = r.params in
-    inr (p, r.named t, inr (tt, r.built, inl (list_refused s p.output_list_filename t status d r.refused)))
+    inr (p, r.named t, inl (list_refused s p.output_list_filename t status d r.refused))
 first_refused s name Next t status d (inr (inr (inl r))) =
     let p = r.params in
-    inr (p, r.named t, inr (tt, r.built, inr (r.times, r.listed t, inl (table_refused s p.ewald_table_file t status d r.refused))))
+    inr (p, r.named t, inr (r.times, r.listed t, inl (table_refused s p.ewald_table_file t status d r.refused)))
 first_refused s name Next t status d (inr (inr (inr r))) =
     let p = r.params in
     inr (
       p,
       r.named t,
-      inr (
-        tt,
-        r.built,
-        inr (
-          r.times,
-          r.listed t,
-          inr (
-            r.table,
-            r.corrected t,
-            inl (factors_refused s (last_tick (setup_of p)) p.expansion_table_file t status d r.refused),
-          ),
-        ),
-      ),
+      inr (r.times, r.listed t, inr (r.table, r.corrected t, inl (factors_refused s (last_tick (setup_of p)) p.expansion_table_file t status d r.refused))),
     )
 
 -- ---- a run
@@ -117,10 +101,10 @@ abbrev pub RunStages : Files → List ℕ → Status → Type 0
 RunStages files name = Stages files name (NoBodies files)
 
 abbrev pub RunValue : Type 0
-RunValue = ParamsData × (Unit {0} × (List ℕ × (Option TableData × (Option ExpansionData × List BodyData))))
+RunValue = ParamsData × (List ℕ × (Option TableData × (Option ExpansionData × List BodyData)))
 
 abbrev pub run_value : InputsData → List BodyData → RunValue
-run_value i B = (i.params, (tt, (i.times, (i.table, (i.factors, B)))))
+run_value i B = (i.params, (i.times, (i.table, (i.factors, B))))
 
 abbrev pub RunGiven : Files → List ℕ → RunValue → Type 0
 RunGiven files name = AllGiven files name (GivesBodies files)
@@ -169,10 +153,10 @@ abbrev pub ResumeStages : Files → List ℕ → List ℕ → Status → Type 0
 ResumeStages files name restart = Stages files name (NoState files restart)
 
 abbrev pub ResumeValue : Type 0
-ResumeValue = ParamsData × (Unit {0} × (List ℕ × (Option TableData × (Option ExpansionData × ((StateData × SetupData) × Unit {0})))))
+ResumeValue = ParamsData × (List ℕ × (Option TableData × (Option ExpansionData × ((StateData × SetupData) × Unit {0}))))
 
 abbrev pub resume_value : InputsData → StateData → ResumeValue
-resume_value i σ = (i.params, (tt, (i.times, (i.table, (i.factors, ((σ, setup_of i.params), tt))))))
+resume_value i σ = (i.params, (i.times, (i.table, (i.factors, ((σ, setup_of i.params), tt)))))
 
 abbrev pub ResumeGiven : Files → List ℕ → List ℕ → ResumeValue → Type 0
 ResumeGiven files name restart = AllGiven files name (GivesState files restart)

@@ -2,12 +2,10 @@
 use Rattle.std.proofs.Common.{◌≡◌, ℕ, List, Some, None, inl, inr, refl}
 use Rattle.particle_set.specs.declared.row.SetErr.{SetErr}
 use Rattle.particle_set.specs.Rows.{IsSetOf}
-use Rattle.nbody_model.specs.Setups.{SetupData}
-use Rattle.nbody_model.specs.States.{StateData}
 use Rattle.restart_files.specs.declared.errors.RestartErr.{RestartErr}
 use Rattle.restart_files.specs.declared.errors.RestartErr.TheVariants.{Tag, Length, Version, Field, EndMark, Bodies as InBodies, Memory}
 use Rattle.restart_files.specs.Exact.{IsWantOfMemory}
-use Rattle.restart_files.specs.RestartFile.{IsFirstFault, Spell, first_fault, rows_in}
+use Rattle.restart_files.specs.RestartFile.{IsFirstFault, first_fault, rows_in}
 use Rattle.restart_files.proofs.OneReading.{reads_one_way}
 use Rattle.gadget.specs.Restarts.{SpellsState}
 use Rattle.gadget.proofs.Exact.{IsExact, Either, OneWay, either_one, check_exact, mapped}

@@ -1,5 +1,5 @@
 -- A session from the state of a restart file goes on as each run that kept it.
-use Rattle.std.proofs.Common.{◌≡◌, ℕ, List, Option, Some, sym, ◌∙◌, subst}
+use Rattle.std.proofs.Common.{◌≡◌, ℕ, List, Some, sym, ◌∙◌, subst}
 use Rattle.store_io.specs.Files.{Files}
 use Rattle.nbody_model.specs.Setups.{IsSetup}
 use Rattle.nbody_model.specs.States.{StateData}

@@ -1,10 +1,12 @@
--- A table that bytes spell keeps its limits.
+-- A table that bytes spell keeps its limits, and so it corrects little.
 use Rattle.std.proofs.Common.{◌≡◌, ℕ, ◌≤◌, Bool, true, false, cond, ltb, List, Option, Some, None, refl, sym, subst}
-use Rattle.std.specs.Prelude.{◌+◌, ◌*◌, ◌==◌, not, length, take}
+use Rattle.std.specs.Prelude.{◌+◌, ◌*◌, ◌==◌, not, length, take, IfSome}
 use Rattle.std.specs.Option.{option_or}
 use Rattle.std.specs.Str.{bytes_eq}
 use Rattle.std.proofs.lemmas.Bool.{ltb-false}
 use Rattle.nbody_model.specs.Tables.{TableData, IsTable}
+use Rattle.model_laws.specs.Laws.{CorrectsLittle}
+use Rattle.model_laws.proofs.Corrections.{corrects_little}
 use Rattle.ewald_table.specs.TableFile.{Spell, grid_in, count_of, table_tag, table_in, head_fault, plane_fault}
 use Rattle.ewald_table.specs.declared.errors.TableErr.{TableErr}
 use Rattle.ewald_table.specs.declared.errors.TableErr.TheVariants.{Tag, GridRange, Length}
@@ -40,3 +42,7 @@ pub spelled_sound : (bytes : List ℕ) (t : TableData) → Spell bytes t → IsT
 spelled_sound bytes t s =
     let n : (head_fault bytes ≡ None) × (plane_fault bytes ≡ None) = neither (head_fault bytes) (plane_fault bytes) s.faultless in
     subst IsTable (sym s.is) (sound_parts bytes (grid_in bytes) ((table_in bytes).entries) refl refl (fine bytes n.0) n.1)
+
+pub sound_corrects : (t : Option TableData) → IfSome t IsTable → CorrectsLittle t
+sound_corrects None h = tt
+sound_corrects (Some t) h = corrects_little t h

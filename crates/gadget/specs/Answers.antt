@@ -1,9 +1,10 @@
 -- When each answer may be given, what it leaves, and what is printed.
-use Rattle.std.specs.Prelude.{◌≡◌, ◌≢◌, ◌⊎◌, ℕ, Bool, true, false, IsTrue, List, [], Option}
+use Rattle.std.specs.Prelude.{◌≡◌, ◌⊎◌, ℕ, Bool, true, false, IsTrue, List, Option}
 use Rattle.store_io.specs.Causes.{Rose}
 use Rattle.store_io.specs.Files.{Files}
 use Rattle.store_io.specs.Sinks.{Follows, FollowsPart}
 use Rattle.store_io.specs.declared.store.Store as store
+use Rattle.store_io.specs.declared.schedule.Schedule as schedule
 use Rattle.store_io.specs.declared.stopper.Stopper as stopper
 use Rattle.store_io.specs.declared.sink.Sink as sink
 use Rattle.nbody_model.specs.Bodies.{BodyData}
@@ -11,40 +12,50 @@ use Rattle.nbody_model.specs.Setups.{SetupData}
 use Rattle.nbody_model.specs.States.{StateData}
 use Rattle.nbody_model.specs.Tables.{Gravity}
 use Rattle.param_file.specs.Settings.{setup_of}
-use Rattle.force_field.specs.Lists.{quiet}
+use Rattle.restart_laws.specs.Kept.{IsFirst}
+use Rattle.rank_laws.specs.Played.{Picks}
+use Rattle.rank_field.specs.Fields.{IsPlayedAmong, picks_of}
 use Rattle.run_session.specs.declared.ended.Ended.{Ended}
 use Rattle.run_session.specs.RunEnds.{RunEnds}
 use Rattle.run_session.specs.Worlds.{World, world_by}
 use Rattle.gadget.specs.declared.status.Status.{Status}
-use Rattle.gadget.specs.declared.status.Status.TheVariants.{Usage, Memory, ConsoleFault, NotBuilt}
+use Rattle.gadget.specs.declared.status.Status.TheVariants.{Usage, Memory, ConsoleFault}
+use Rattle.gadget.specs.declared.sessions.Way.{Way}
 use Rattle.gadget.specs.declared.outcome.Outcome.{Outcome}
-use Rattle.gadget.specs.declared.outcome.Outcome.TheVariants.{Ran, Checked, Shown, Made, Refused}
-use Rattle.gadget.specs.Commands.{Asked, nothing, run, resume, check, show, make}
-use Rattle.gadget.specs.Reads.{Seen}
+use Rattle.gadget.specs.declared.outcome.Outcome.TheVariants.{Ran, Checked, Shown, Made, Grouped, Linked, Refused}
+use Rattle.gadget.specs.Commands.{Asked, nothing, run, resume, check, show, make, groups, links}
+use Rattle.gadget.specs.Reads.{Seen, seen}
 use Rattle.gadget.specs.Inputs.{InputsData}
 use Rattle.gadget.specs.Snapshots.{NamesSnapshot, SnapshotRefusal}
 use Rattle.gadget.specs.Begins.{BeginsWith, RunRefusal, GoesOnFrom, GoesOnAsKept, ResumeRefusal, first_state, plan_by}
 use Rattle.gadget.specs.Making.{MakeDoes}
+use Rattle.gadget.specs.Grouping.{GroupsDoes}
+use Rattle.gadget.specs.Linking.{LinksDoes}
 use Rattle.gadget.specs.Outcomes.{status_of, text_of}
 
 -- ---- what is told before and after
 
--- of a store and of who may stop a run; forces by the list of bodies have no state
-abbrev pub world : {X Y : Type 0} → store.Ghosts X → stopper.Ghosts Y → X → Y → World
-world S Q x y = world_by S Q x y []
+-- of a store, of a schedule and of who may stop a run: forces that ranks find go on by the state of their schedule
+abbrev pub world : {X Y Z : Type 0} → store.Ghosts X → schedule.Ghosts Y → stopper.Ghosts Z → X → Y → Z → World
+world S K Q x y z = world_by S Q x z (K.state y)
 
--- both, before and after a call
+-- of a schedule: what it answers in a state and the state after that, and the state after a seed
+pub record Order : Type 0 where
+  pub picks : Picks
+  pub seeded : List ℕ → ℕ → List ℕ
+
+abbrev pub order_by : {X : Type 0} → schedule.Ghosts X → Order
+order_by K = record { picks = picks_of K; seeded = K.seeded }
+
+-- all of them, before and after a call
 pub record Edge : Type 0 where
   pub tells : Bool
+  pub order : Order
   pub old : World
   pub new : World
 
-abbrev pub edge_by : {X Y : Type 0} → store.Ghosts X → stopper.Ghosts Y → X → Y → X → Y → Edge
-edge_by S Q old stop_old new stop_new = record { tells = S.tells old; old = world S Q old stop_old; new = world S Q new stop_new }
-
--- of a store, as far as reading goes
-abbrev pub seen : Bool → World → World → Seen
-seen told A Z = record { tells = told; files = A.files; faults = A.faults; faults_new = Z.faults; last = Z.last }
+abbrev pub edge_by : {X Y Z : Type 0} → store.Ghosts X → schedule.Ghosts Y → stopper.Ghosts Z → X → Y → Z → X → Y → Z → Edge
+edge_by S K Q x y z u v w = record { tells = S.tells x; order = order_by K; old = world S K Q x y z; new = world S K Q u v w }
 
 -- of a sink
 pub record Console : Type 0 where
@@ -54,10 +65,19 @@ pub record Console : Type 0 where
 abbrev pub console : {X : Type 0} → sink.Ghosts X → X → Console
 console O out = record { written = O.written out; faults = O.faults out }
 
--- no file changed, none was finished, and nobody was asked whether to stop
+-- before and after a call
+pub record Said : Type 0 where
+  pub old : Console
+  pub new : Console
+
+abbrev pub said_by : {X : Type 0} → sink.Ghosts X → X → X → Said
+said_by O x y = record { old = console O x; new = console O y }
+
+-- no file changed, none was finished, the schedule is as before, and nobody was asked whether to stop
 pub record Untouched (A Z : World) : Type 0 where
   pub files : Z.files ≡ A.files
   pub closed : Z.closed ≡ A.closed
+  pub state : Z.state ≡ A.state
   pub yes : Z.yes ≡ A.yes
   pub left : Z.left ≡ A.left
 
@@ -68,48 +88,65 @@ pub record Unasked (A Z : World) : Type 0 where
 
 -- ---- a run, and one that is resumed
 
--- how a run by these inputs ends, resumed or not, against the session of the model
-abbrev pub SessionEnds : Bool → Bool → World → World → InputsData → StateData → Ended → Type 0
-SessionEnds resumed told A Z i σ ended =
+-- what is told before a session: the schedule has the state that a seed leaves
+abbrev pub seeded_by : Edge → ℕ → World
+seeded_by e seed = record e.old { state = e.order.seeded e.old.state seed }
+
+-- how a run by these inputs ends, resumed or not, against the session of the model: each asked force has a finished run of
+-- the machine of so many ranks, the first played from the state that `DeliverySeed` leaves, each further one from the state
+-- in which the one before ended
+abbrev pub SessionEnds : Way → Edge → InputsData → StateData → Ended → Type 0
+SessionEnds way e i σ ended =
     let g : Gravity = record { setup = setup_of i.params; table = i.table } in
-    RunEnds (plan_by i) i.params resumed σ (quiet g []) told A Z ended
+    RunEnds (plan_by i) i.params way.resumed σ (IsPlayedAmong e.order.picks g way.ranks) e.tells (seeded_by e i.params.delivery_seed) e.new ended
 
--- the same, by what is told before and after
-abbrev pub SessionEndsBy : Bool → Edge → InputsData → StateData → Ended → Type 0
-SessionEndsBy resumed e i σ ended = SessionEnds resumed e.tells e.old e.new i σ ended
+abbrev pub anew : ℕ → Way
+anew ranks = record { resumed = false; ranks = ranks }
 
--- the inputs of a run are accepted, and from tick 0 it came to this end
-pub record IsRun (told : Bool) (A Z : World) (name : List ℕ) (ended : Ended) (s : SetupData) : Type 0 where
+abbrev pub going_on : ℕ → Way
+going_on ranks = record { resumed = true; ranks = ranks }
+
+-- the inputs of a run are accepted, and from tick 0, with bodies that a file has room for, it came to this end
+pub record IsRun (ranks : ℕ) (e : Edge) (name : List ℕ) (ended : Ended) (s : SetupData) : Type 0 where
   pub inputs : InputsData
   pub bodies : List BodyData
-  pub accepted : IsTrue told → BeginsWith A.files name inputs bodies
-  pub ends : SessionEnds false told A Z inputs (first_state bodies) ended
+  pub accepted : IsTrue e.tells → BeginsWith e.old.files name inputs bodies
+  pub first : IsFirst (first_state bodies)
+  pub ends : SessionEnds (anew ranks) e inputs (first_state bodies) ended
   pub setup : s ≡ setup_of inputs.params
 
 -- the inputs of a run that is resumed are accepted, and from the state of the restart file it came to this end; its session
 -- goes on exactly as any run from tick 0 that kept the file
-pub record IsResumed (told : Bool) (A Z : World) (name restart : List ℕ) (ended : Ended) (s : SetupData) : Type 0 where
+pub record IsResumed (ranks : ℕ) (e : Edge) (name restart : List ℕ) (ended : Ended) (s : SetupData) : Type 0 where
   pub inputs : InputsData
   pub state : StateData
-  pub accepted : IsTrue told → GoesOnFrom A.files name restart inputs state
-  pub goes_on : IsTrue told → GoesOnAsKept A.files restart (plan_by inputs) state
-  pub ends : SessionEnds true told A Z inputs state ended
+  pub accepted : IsTrue e.tells → GoesOnFrom e.old.files name restart inputs state
+  pub goes_on : IsTrue e.tells → GoesOnAsKept e.old.files restart (plan_by inputs) state
+  pub ends : SessionEnds (going_on ranks) e inputs state ended
   pub setup : s ≡ setup_of inputs.params
 
--- either is refused by its inputs, before any file changes, or it runs
-abbrev pub RunDoes : Bool → World → World → List ℕ → Outcome → Type 0
-RunDoes told A Z name (Ran ended s) = IsRun told A Z name ended s
-RunDoes told A Z name (Refused status) = RunRefusal (seen told A Z) name status × Untouched A Z
-RunDoes told A Z name (Checked B) = ⊥
-RunDoes told A Z name (Shown head B) = ⊥
-RunDoes told A Z name (Made count made) = ⊥
+-- what a call showed of the files, as far as reading goes
+abbrev pub shown : Edge → Seen
+shown e = seen e.tells e.old e.new
 
-abbrev pub ResumeDoes : Bool → World → World → List ℕ → List ℕ → Outcome → Type 0
-ResumeDoes told A Z name restart (Ran ended s) = IsResumed told A Z name restart ended s
-ResumeDoes told A Z name restart (Refused status) = ResumeRefusal (seen told A Z) name restart status × Untouched A Z
-ResumeDoes told A Z name restart (Checked B) = ⊥
-ResumeDoes told A Z name restart (Shown head B) = ⊥
-ResumeDoes told A Z name restart (Made count made) = ⊥
+-- either is refused by its inputs, before any file changes, or it runs
+abbrev pub RunDoes : ℕ → Edge → List ℕ → Outcome → Type 0
+RunDoes ranks e name (Ran ended s) = IsRun ranks e name ended s
+RunDoes ranks e name (Refused status) = RunRefusal (shown e) name status × Untouched e.old e.new
+RunDoes ranks e name (Checked B) = ⊥
+RunDoes ranks e name (Shown head B) = ⊥
+RunDoes ranks e name (Made count made) = ⊥
+RunDoes ranks e name (Grouped number members) = ⊥
+RunDoes ranks e name (Linked count) = ⊥
+
+abbrev pub ResumeDoes : ℕ → Edge → List ℕ → List ℕ → Outcome → Type 0
+ResumeDoes ranks e name restart (Ran ended s) = IsResumed ranks e name restart ended s
+ResumeDoes ranks e name restart (Refused status) = ResumeRefusal (shown e) name restart status × Untouched e.old e.new
+ResumeDoes ranks e name restart (Checked B) = ⊥
+ResumeDoes ranks e name restart (Shown head B) = ⊥
+ResumeDoes ranks e name restart (Made count made) = ⊥
+ResumeDoes ranks e name restart (Grouped number members) = ⊥
+ResumeDoes ranks e name restart (Linked count) = ⊥
 
 -- ---- the commands that write nothing
 
@@ -125,6 +162,8 @@ CheckDoes s name (Refused status) = RunRefusal s name status
 CheckDoes s name (Ran ended setup) = ⊥
 CheckDoes s name (Shown head B) = ⊥
 CheckDoes s name (Made count made) = ⊥
+CheckDoes s name (Grouped number members) = ⊥
+CheckDoes s name (Linked count) = ⊥
 
 abbrev pub ShowDoes : Seen → List ℕ → Outcome → Type 0
 ShowDoes s name (Shown head B) = (s.faults_new ≡ s.faults) × (IsTrue s.tells → NamesSnapshot s.files name head B)
@@ -132,6 +171,8 @@ ShowDoes s name (Refused status) = SnapshotRefusal s name status
 ShowDoes s name (Ran ended setup) = ⊥
 ShowDoes s name (Checked B) = ⊥
 ShowDoes s name (Made count made) = ⊥
+ShowDoes s name (Grouped number members) = ⊥
+ShowDoes s name (Linked count) = ⊥
 
 -- ---- every command
 
@@ -139,18 +180,16 @@ ShowDoes s name (Made count made) = ⊥
 abbrev pub RefusesAtOnce : World → World → Outcome → Status → Type 0
 RefusesAtOnce A Z outcome status = (outcome ≡ Refused status) × Untouched A Z
 
--- one rank is built, more aren't
-abbrev pub OnRanks : ℕ → World → World → Outcome → Type 0 → Type 0
-OnRanks ranks A Z outcome P = ((ranks ≢ 1) × RefusesAtOnce A Z outcome NotBuilt) ⊎ ((ranks ≡ 1) × P)
-
 -- what a command may come to, and what it leaves
-abbrev pub Does : Asked → Bool → World → World → Outcome → Type 0
-Does nothing told A Z outcome = RefusesAtOnce A Z outcome Usage
-Does (run param ranks) told A Z outcome = OnRanks ranks A Z outcome (RunDoes told A Z param outcome)
-Does (resume param restart ranks) told A Z outcome = OnRanks ranks A Z outcome (ResumeDoes told A Z param restart outcome)
-Does (check param) told A Z outcome = CheckDoes (seen told A Z) param outcome × Untouched A Z
-Does (show name) told A Z outcome = ShowDoes (seen told A Z) name outcome × Untouched A Z
-Does (make count seed name) told A Z outcome = MakeDoes told A Z count seed name outcome × Unasked A Z
+abbrev pub Does : Asked → Edge → Outcome → Type 0
+Does nothing e outcome = RefusesAtOnce e.old e.new outcome Usage
+Does (run param ranks) e outcome = RunDoes ranks e param outcome
+Does (resume param restart ranks) e outcome = ResumeDoes ranks e param restart outcome
+Does (check param) e outcome = CheckDoes (shown e) param outcome × Untouched e.old e.new
+Does (show name) e outcome = ShowDoes (shown e) name outcome × Untouched e.old e.new
+Does (make count seed name) e outcome = MakeDoes e.tells e.old e.new count seed name outcome × Unasked e.old e.new
+Does (groups snapshot reach least name) e outcome = GroupsDoes e.tells e.old e.new snapshot reach least name outcome × Unasked e.old e.new
+Does (links first second name) e outcome = LinksDoes e.tells e.old e.new first second name outcome × Unasked e.old e.new
 
 -- ---- what is printed
 
@@ -173,7 +212,7 @@ Prints status lines old new answer = IsPrinted status lines old new answer ⊎ (
 -- ---- the top call
 
 -- how it ends: the command that the words ask for came to an outcome, whose lines are printed and whose status is the answer
-pub record Ends (asked : Asked) (e : Edge) (old new : Console) (answer : Status) : Type 0 where
+pub record Ends (asked : Asked) (e : Edge) (said : Said) (answer : Status) : Type 0 where
   pub outcome : Outcome
-  pub does : Does asked e.tells e.old e.new outcome
-  pub prints : Prints (status_of outcome) (text_of outcome) old new answer
+  pub does : Does asked e outcome
+  pub prints : Prints (status_of outcome) (text_of outcome) said.old said.new answer

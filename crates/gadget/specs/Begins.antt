@@ -1,5 +1,5 @@
 -- What a run begins with: tick 0 by a snapshot, or the state of a restart file; and why it doesn't begin.
-use Rattle.std.specs.Prelude.{◌≡◌, ◌⊎◌, ℕ, IsTrue, List, [], Option, Some}
+use Rattle.std.specs.Prelude.{◌≡◌, ◌⊎◌, ℕ, IsTrue, List, [], Some}
 use Rattle.store_io.specs.Files.{Files}
 use Rattle.nbody_model.specs.Bodies.{BodyData}
 use Rattle.nbody_model.specs.Setups.{SetupData}

@@ -1,6 +1,6 @@
 -- What is read before anything is written, but for the bodies: the parameter file, the list and the tables that it names,
 -- and why one of them isn't accepted.
-use Rattle.std.specs.Prelude.{◌≡◌, ◌≢◌, ◌⊎◌, ℕ, Bool, true, false, not, ◌==◌, IsTrue, List, [], Option, Some, None}
+use Rattle.std.specs.Prelude.{◌≡◌, ◌≢◌, ◌⊎◌, ℕ, IsTrue, List, [], Option, Some, None}
 use Rattle.store_io.specs.Files.{Files}
 use Rattle.text_words.specs.Comments.{lines_in}
 use Rattle.nbody_model.specs.Setups.{last_tick}
@@ -13,7 +13,7 @@ use Rattle.param_file.specs.declared.errors.ParamKind.TheVariants.{Memory as Par
 use Rattle.output_schedule.specs.declared.errors.OutputErr.{OutputErr}
 use Rattle.output_schedule.specs.declared.errors.OutputErr.TheVariants.{Memory as NoRoom}
 use Rattle.gadget.specs.declared.status.Status.{Status}
-use Rattle.gadget.specs.declared.status.Status.TheVariants.{Memory, NotBuilt, Param, Outputs}
+use Rattle.gadget.specs.declared.status.Status.TheVariants.{Memory, Param, Outputs}
 use Rattle.gadget.specs.declared.inputs.Inputs.{Inputs}
 use Rattle.gadget.specs.Reads.{Seen, NotRead, FileSpells, FileHasFault, IfNamed}
 use Rattle.gadget.specs.Tables.{GivesTable, TableRefusal}
@@ -43,20 +43,9 @@ NamesParams files name p = FileSpells files name longest_parameters SpellsParams
 abbrev pub HasParamFault : Files → List ℕ → ParamErr → Type 0
 HasParamFault files name err = FileHasFault files name longest_parameters IsBadParams err
 
--- these settings ask for what isn't built: a trace of the ranks
-abbrev pub asks_unbuilt : ParamsData → Bool
-asks_unbuilt p = not (p.rank_trace == 0)
-
--- the file of this name spells settings that ask for what isn't built
-pub record AsksUnbuilt (files : Files) (name : List ℕ) : Type 0 where
-  pub params : ParamsData
-  pub named : NamesParams files name params
-  pub unbuilt : asks_unbuilt params ≡ true
-
 -- why a parameter file isn't accepted; want of memory is no error of the file
 abbrev pub ParamRefusal : Seen → List ℕ → Status → Type 0
 ParamRefusal s name (Param err) = (err.kind ≢ ParamMemory) × (IsTrue s.tells → HasParamFault s.files name err)
-ParamRefusal s name NotBuilt = IsTrue s.tells → AsksUnbuilt s.files name
 ParamRefusal s name status = NotRead s name longest_parameters status
 
 -- ---- the output list
@@ -107,7 +96,6 @@ inputs_of i = record { params = i.params; times = i.outputs.items; table = i.tab
 -- these
 pub record Accepts (files : Files) (name : List ℕ) (i : InputsData) : Type 0 where
   pub params : NamesParams files name i.params
-  pub built : asks_unbuilt i.params ≡ false
   pub listed : GivesTimes files i.params.output_list_filename i.times
   pub corrected : GivesTable files i.params.ewald_table_file i.table
   pub expanded : GivesFactors files (last_tick (setup_of i.params)) i.params.expansion_table_file i.factors
@@ -116,14 +104,12 @@ pub record Accepts (files : Files) (name : List ℕ) (i : InputsData) : Type 0 w
 pub record RefusesList (s : Seen) (name : List ℕ) (status : Status) : Type 0 where
   pub params : ParamsData
   pub named : IsTrue s.tells → NamesParams s.files name params
-  pub built : asks_unbuilt params ≡ false
   pub refused : ListRefusal s params.output_list_filename status
 
 -- the table of corrections isn't accepted, but the parameter file and the list are
 pub record RefusesTable (s : Seen) (name : List ℕ) (status : Status) : Type 0 where
   pub params : ParamsData
   pub named : IsTrue s.tells → NamesParams s.files name params
-  pub built : asks_unbuilt params ≡ false
   pub times : List ℕ
   pub listed : IsTrue s.tells → GivesTimes s.files params.output_list_filename times
   pub refused : TableRefusal s params.ewald_table_file status
@@ -132,7 +118,6 @@ pub record RefusesTable (s : Seen) (name : List ℕ) (status : Status) : Type 0 
 pub record RefusesFactors (s : Seen) (name : List ℕ) (status : Status) : Type 0 where
   pub params : ParamsData
   pub named : IsTrue s.tells → NamesParams s.files name params
-  pub built : asks_unbuilt params ≡ false
   pub times : List ℕ
   pub listed : IsTrue s.tells → GivesTimes s.files params.output_list_filename times
   pub table : Option TableData

@@ -2,10 +2,15 @@ pub mod Answers
 pub mod Asks
 pub mod Begins
 pub mod Codes
+pub mod Catalogues
 pub mod Commands
 pub mod Factors
+pub mod Grouping
 pub mod Inputs
+pub mod Linking
+pub mod LinkTexts
 pub mod Making
+pub mod NamedFile
 pub mod Outcomes
 pub mod Reads
 pub mod Restarts
@@ -13,3 +18,6 @@ pub mod Snapshots
 pub mod Tables
 pub mod Texts
 pub mod Decided
+pub mod Headline
+pub mod Momentum
+pub mod LeadOn

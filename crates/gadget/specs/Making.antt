@@ -10,7 +10,7 @@ use Rattle.made_bodies.specs.declared.files.MakeErr.TheVariants as made
 use Rattle.gadget.specs.declared.status.Status.{Status}
 use Rattle.gadget.specs.declared.status.Status.TheVariants.{Memory, WriteFault}
 use Rattle.gadget.specs.declared.outcome.Outcome.{Outcome}
-use Rattle.gadget.specs.declared.outcome.Outcome.TheVariants.{Ran, Checked, Shown, Made, Refused}
+use Rattle.gadget.specs.declared.outcome.Outcome.TheVariants.{Ran, Checked, Shown, Made, Grouped, Linked, Refused}
 
 -- the answer for files that weren't made
 abbrev pub status_by : MakeErr → Status
@@ -39,6 +39,8 @@ MakeDoes told A Z count seed name (Refused status) = MakeRefusal A Z name status
 MakeDoes told A Z count seed name (Ran ended setup) = ⊥
 MakeDoes told A Z count seed name (Checked B) = ⊥
 MakeDoes told A Z count seed name (Shown head B) = ⊥
+MakeDoes told A Z count seed name (Grouped groups members) = ⊥
+MakeDoes told A Z count seed name (Linked n) = ⊥
 
 -- by what a store tells alone, whoever may stop a run
 abbrev pub MakesBy : {X : Type 0} → store.Ghosts X → X → X → ℕ → ℕ → List ℕ → Outcome → Type 0

@@ -6,8 +6,8 @@ use Rattle.run_session.specs.declared.ended.End.TheVariants as ends
 use Rattle.gadget.specs.declared.status.Status.{Status}
 use Rattle.gadget.specs.declared.status.Status.TheVariants.{Done, Stopped, Memory, WriteFault, MomRange, StepRange}
 use Rattle.gadget.specs.declared.outcome.Outcome.{Outcome}
-use Rattle.gadget.specs.declared.outcome.Outcome.TheVariants.{Ran, Checked, Shown, Made, Refused}
-use Rattle.gadget.specs.Texts.{check_text, show_text, made_text, done_text, stop_text, status_text}
+use Rattle.gadget.specs.declared.outcome.Outcome.TheVariants.{Ran, Checked, Shown, Made, Grouped, Linked, Refused}
+use Rattle.gadget.specs.Texts.{check_text, show_text, made_text, grouped_text, linked_text, done_text, stop_text, status_text}
 
 -- ---- of a run that ended, however it did
 
@@ -32,6 +32,8 @@ status_of (Ran run setup) = status_at run run.end
 status_of (Checked B) = Done
 status_of (Shown head B) = Done
 status_of (Made count name) = Done
+status_of (Grouped groups members) = Done
+status_of (Linked count) = Done
 status_of (Refused status) = status
 
 abbrev pub text_of : Outcome → List ℕ
@@ -39,4 +41,6 @@ text_of (Ran run setup) = text_at setup.top_bin run (status_at run run.end)
 text_of (Checked B) = check_text B
 text_of (Shown head B) = show_text head B
 text_of (Made count name) = made_text count name
+text_of (Grouped groups members) = grouped_text groups members
+text_of (Linked count) = linked_text count
 text_of (Refused status) = status_text status

@@ -5,6 +5,7 @@ use Rattle.store_io.specs.Files.{Files}
 use Rattle.store_io.specs.declared.store.Store as store
 use Rattle.store_io.specs.declared.errors.ReadErr.{ReadErr}
 use Rattle.store_io.specs.declared.errors.ReadErr.TheVariants.{Absent as NoFile, Failed as NotReadable, TooLong as TooMany, Memory as NoMemory}
+use Rattle.run_session.specs.Worlds.{World}
 use Rattle.gadget.specs.declared.status.Status.{Status}
 use Rattle.gadget.specs.declared.status.Status.TheVariants.{Memory, ReadFault, Absent, TooLong}
 
@@ -19,6 +20,10 @@ pub record Seen : Type 0 where
 -- what a store tells of a call that changes no file
 abbrev pub seen_by : {X : Type 0} → store.Ghosts X → X → X → Seen
 seen_by S old new = record { tells = S.tells old; files = S.file old; faults = S.faults old; faults_new = S.faults new; last = S.last new }
+
+-- the same, of what is told before and after
+abbrev pub seen : Bool → World → World → Seen
+seen told A Z = record { tells = told; files = A.files; faults = A.faults; faults_new = Z.faults; last = Z.last }
 
 -- a file of this name stands, has these bytes, and isn't longer than the limit
 pub record WasRead (files : Files) (name : List ℕ) (limit : ℕ) (bytes : List ℕ) : Type 0 where

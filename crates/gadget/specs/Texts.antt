@@ -22,9 +22,11 @@ use Rattle.snap_file.specs.declared.errors.SnapErr.{SnapErr}
 use Rattle.snap_file.specs.declared.errors.SnapErr.TheVariants.{Block, RepeatedBlock, MissingBlock, HeadLength, HeadTag, Gas, BlockLength, Bodies, Memory as SnapMemory}
 use Rattle.restart_files.specs.declared.errors.RestartErr.{RestartErr}
 use Rattle.restart_files.specs.declared.errors.RestartErr.TheVariants.{Tag as RestartTag, Length as RestartLength, Version, Field, EndMark, Bodies as RestartBodies, Memory as RestartMemory}
+use Rattle.group_file.specs.declared.errors.GroupErr.{GroupErr}
+use Rattle.group_file.specs.declared.errors.GroupErr.TheVariants.{Tag as GroupTag, Truncated as GroupCut, Field as GroupField, Rest, Repeated as TwoGroups, Memory as GroupMemory}
 use Rattle.run_session.specs.declared.ended.Ended.{Ended}
 use Rattle.gadget.specs.declared.status.Status.{Status}
-use Rattle.gadget.specs.declared.status.Status.TheVariants.{Done, Stopped, Usage, Memory, ReadFault, WriteFault, ConsoleFault, Absent, TooLong, NotBuilt, Param, Outputs, Table, Expansion, Snapshot, Restart, Differs, MomRange, StepRange}
+use Rattle.gadget.specs.declared.status.Status.TheVariants.{Done, Stopped, Usage, Memory, ReadFault, WriteFault, ConsoleFault, Absent, TooLong, Param, Outputs, Table, Expansion, Snapshot, Restart, Differs, Catalogue, MomRange, StepRange}
 
 -- a number after a space
 abbrev pub spaced : ℕ → List ℕ
@@ -112,10 +114,18 @@ restart_fault_text EndMark = codes "end mark"
 restart_fault_text (RestartBodies e) = set_text e
 restart_fault_text RestartMemory = codes ""
 
+abbrev pub group_fault_text : GroupErr → List ℕ
+group_fault_text GroupTag = codes "tag"
+group_fault_text (GroupCut at) = codes "truncated at" ++ spaced at
+group_fault_text (GroupField at) = codes "field at" ++ spaced at
+group_fault_text (Rest at) = codes "rest at" ++ spaced at
+group_fault_text (TwoGroups id) = codes "repeated id" ++ spaced id
+group_fault_text GroupMemory = codes ""
+
 -- ---- the line of a status
 
 abbrev pub usage_text : List ℕ
-usage_text = codes "usage: gadget run PARAM RANKS | resume PARAM RESTART RANKS | check PARAM | show SNAP | make COUNT SEED NAME"
+usage_text = codes "usage: gadget run PARAM RANKS | resume PARAM RESTART RANKS | check PARAM | show SNAP | make COUNT SEED NAME | groups SNAP LINK MIN NAME | links FIRST SECOND NAME"
 
 -- what is done, or was stopped, is told by a line of its own
 abbrev pub status_words : Status → List ℕ
@@ -128,7 +138,6 @@ status_words (WriteFault name) = codes "write fault " ++ name
 status_words ConsoleFault = codes ""
 status_words (Absent name) = codes "absent " ++ name
 status_words (TooLong name len) = codes "too long " ++ name ++ spaced len
-status_words NotBuilt = codes "not built"
 status_words (Param e) = param_text e
 status_words (Outputs e) = list_text e
 status_words (Table e) = codes "table " ++ table_text e
@@ -136,6 +145,7 @@ status_words (Expansion e) = codes "expansion " ++ expansion_text e
 status_words (Snapshot e) = codes "snapshot " ++ snapshot_fault_text e
 status_words (Restart e) = codes "restart " ++ restart_fault_text e
 status_words (Differs name) = codes "differs " ++ name_of name
+status_words (Catalogue name kind) = codes "catalogue " ++ name ++ codes " " ++ group_fault_text kind
 status_words (MomRange tick bin id axis) = counted (codes "momentum range tick") tick ++ counted (codes " bin") bin ++ counted (codes " id") id ++ counted (codes " axis") axis
 status_words (StepRange tick id) = counted (codes "step range tick") tick ++ counted (codes " id") id
 
@@ -167,6 +177,14 @@ show_text head B =
 -- how many bodies were made, in a snapshot of this name
 abbrev pub made_text : ℕ → List ℕ → List ℕ
 made_text count name = codes "made" ++ spaced count ++ codes " bodies in " ++ name ++ codes ".ics\n"
+
+-- how many groups were written, and how many members they have
+abbrev pub grouped_text : ℕ → ℕ → List ℕ
+grouped_text groups members = counted (codes "groups") groups ++ counted (codes " members") members ++ codes "\n"
+
+-- how many groups have a descendant
+abbrev pub linked_text : ℕ → List ℕ
+linked_text count = counted (codes "links") count ++ codes "\n"
 
 abbrev pub done_text : Ended → List ℕ
 done_text run =

@@ -35,7 +35,7 @@ pub fn load_run<S: Store>(
         Ok(inputs) => inputs,
         Err(status) => return Err(status),
     };
-    match load_bodies(alloc, store, &inputs.params) {
+    match load_bodies(alloc, store, &inputs.params.init_cond_file) {
         Ok(set) => Ok((inputs, set)),
         Err(status) => Err(status),
     }

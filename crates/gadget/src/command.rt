@@ -3,8 +3,8 @@ ghost use Rattle.std.specs.Prelude.{◌≡◌, ◌≤◌, ◌-◌, ◌^◌, IfSo
 ghost use Rattle.std.specs.Str.{bytes_eq};
 ghost use Rattle.std.specs.List.{list_all};
 ghost use Rattle.store_io.specs.Names.{is_visible, is_name};
-ghost use Rattle.gadget.specs.Asks.{Means};
-ghost use Rattle.gadget.specs.Commands.{asked, asked_of_two, asked_of_three, asked_of_four, is_visible_name, make_as, number_in, resume_on};
+ghost use Rattle.gadget.specs.Asks.{IsCount, Means};
+ghost use Rattle.gadget.specs.Commands.{asked, asked_of_two, asked_of_three, asked_of_four, asked_of_five, groups_as, is_visible_name, links_as, make_as, number_in, resume_on};
 
 use store_io::Text;
 use text_words::read_whole_number;
@@ -15,12 +15,12 @@ pub enum Command<'a> {
     Nothing,
     Run {
         param: &'a Text,
-        ranks: u64,
+        ranks: u32,
     },
     Resume {
         param: &'a Text,
         restart: &'a Text,
-        ranks: u64,
+        ranks: u32,
     },
     Check {
         param: &'a Text,
@@ -31,6 +31,17 @@ pub enum Command<'a> {
     Make {
         count: u64,
         seed: u64,
+        name: &'a Text,
+    },
+    Groups {
+        snapshot: &'a Text,
+        reach: u32,
+        least: u32,
+        name: &'a Text,
+    },
+    Links {
+        first: &'a Text,
+        second: &'a Text,
         name: &'a Text,
     },
 }
@@ -44,6 +55,9 @@ const LONGEST_MADE: usize = 180;
 const MOST_RANKS: u64 = 256;
 
 const MOST_BODIES: u64 = 1_048_576;
+
+/// The greatest length of a link.
+const LONGEST_LINK: u64 = 1 << 30;
 
 fn is_word(word: &Text, want: &[u8]) -> bool
     ensures { result ≡ bytes_eq word.now want.now }
@@ -69,6 +83,7 @@ fn is_visible_name(word: &Text, most: usize) -> bool
 // The number that a word spells, where it lies in this range.
 fn number_in(word: &Text, least: u64, most: u64) -> Option<u64>
     ensures value { result ≡ number_in least most word.now }
+    ensures low { IfSome result (λ n. least ≤ n) }
     ensures high { IfSome result (λ n. n ≤ most) }
 {
     match read_whole_number(word.bytes()) {
@@ -80,6 +95,17 @@ fn number_in(word: &Text, least: u64, most: u64) -> Option<u64>
             }
         }
         Err(_) => None,
+    }
+}
+
+// The number of ranks that a word spells.
+fn ranks_in(word: &Text) -> Option<u32>
+    ensures value { result ≡ number_in 1 256 word.now }
+    ensures count { IfSome result IsCount }
+{
+    match number_in(word, 1, MOST_RANKS) {
+        Some(ranks) => Some(ranks as u32),
+        None => None,
     }
 }
 
@@ -110,7 +136,7 @@ fn of_three<'a>(word: &Text, param: &'a Text, ranks: &Text) -> Command<'a>
     if !param.is_name() {
         return Command::Nothing;
     }
-    match number_in(ranks, 1, MOST_RANKS) {
+    match ranks_in(ranks) {
         Some(ranks) => Command::Run { param, ranks },
         None => Command::Nothing,
     }
@@ -120,7 +146,7 @@ fn of_three<'a>(word: &Text, param: &'a Text, ranks: &Text) -> Command<'a>
 fn resume_on<'a>(param: &'a Text, restart: &'a Text, ranks: &Text) -> Command<'a>
     ensures { Means result (resume_on param.now restart.now (number_in 1 256 ranks.now)) }
 {
-    match number_in(ranks, 1, MOST_RANKS) {
+    match ranks_in(ranks) {
         Some(ranks) => Command::Resume {
             param,
             restart,
@@ -146,6 +172,50 @@ fn make_as<'a>(count: &Text, seed: &Text, name: &'a Text) -> Command<'a>
     Command::Nothing
 }
 
+// The groups of a snapshot, where there are a length of links, a number of members and two names.
+fn groups_as<'a>(snapshot: &'a Text, reach: &Text, least: &Text, name: &'a Text) -> Command<'a>
+    ensures { Means result (groups_as snapshot.now (number_in 0 1073741824 reach.now) (number_in 1 1048576 least.now) name.now) }
+{
+    let Some(reach) = number_in(reach, 0, LONGEST_LINK) else {
+        return Command::Nothing;
+    };
+    let Some(least) = number_in(least, 1, MOST_BODIES) else {
+        return Command::Nothing;
+    };
+    if !is_visible_name(snapshot, LONGEST_NUMBERED) {
+        return Command::Nothing;
+    }
+    if !name.is_name() {
+        return Command::Nothing;
+    }
+    Command::Groups {
+        snapshot,
+        reach: reach as u32,
+        least: least as u32,
+        name,
+    }
+}
+
+// The links of two catalogues, where there are three names.
+fn links_as<'a>(first: &'a Text, second: &'a Text, name: &'a Text) -> Command<'a>
+    ensures { Means result (links_as first.now second.now name.now) }
+{
+    if !first.is_name() {
+        return Command::Nothing;
+    }
+    if !second.is_name() {
+        return Command::Nothing;
+    }
+    if !name.is_name() {
+        return Command::Nothing;
+    }
+    Command::Links {
+        first,
+        second,
+        name,
+    }
+}
+
 fn of_four<'a>(word: &Text, a: &'a Text, b: &'a Text, c: &'a Text) -> Command<'a>
     ensures { Means result (asked_of_four word.now a.now b.now c.now) }
 {
@@ -158,6 +228,18 @@ fn of_four<'a>(word: &Text, a: &'a Text, b: &'a Text, c: &'a Text) -> Command<'a
     if is_word(word, b"make") {
         return make_as(a, b, c);
     }
+    if is_word(word, b"links") {
+        return links_as(a, b, c);
+    }
+    Command::Nothing
+}
+
+fn of_five<'a>(word: &Text, a: &'a Text, b: &'a Text, c: &'a Text, d: &'a Text) -> Command<'a>
+    ensures { Means result (asked_of_five word.now a.now b.now c.now d.now) }
+{
+    if is_word(word, b"groups") {
+        return groups_as(a, b, c, d);
+    }
     Command::Nothing
 }
 
@@ -169,6 +251,7 @@ pub fn command_of<'a>(words: &'a [Text]) -> Command<'a>
         [word, name] => of_two(word, name),
         [word, param, ranks] => of_three(word, param, ranks),
         [word, a, b, c] => of_four(word, a, b, c),
+        [word, a, b, c, d] => of_five(word, a, b, c, d),
         _ => Command::Nothing,
     }
 }

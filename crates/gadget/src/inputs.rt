@@ -6,12 +6,11 @@ ghost use Rattle.param_file.specs.Settings.{setup_of};
 ghost use Rattle.store_io.specs.Causes.{HasCause, read_failed};
 ghost use Rattle.store_io.specs.Told.{IsQuiet, KeepsFiles, Tells};
 ghost use Rattle.gadget.specs.Reads.{WasRead, NotRead, seen_by, status_of};
-ghost use Rattle.gadget.specs.Inputs.{SpellsParams, SpellsTimes, NamesParams, ParamRefusal, ParamAnswer, GivesTimes, NamesTimes, ListRefusal, NamedListRefusal, ListAnswer, Accepts, FirstRefusal, RefusesList, RefusesTable, RefusesFactors, asks_unbuilt, inputs_of};
+ghost use Rattle.gadget.specs.Inputs.{SpellsParams, SpellsTimes, NamesParams, ParamRefusal, ParamAnswer, GivesTimes, NamesTimes, ListRefusal, NamedListRefusal, ListAnswer, Accepts, FirstRefusal, RefusesList, RefusesTable, RefusesFactors, inputs_of};
 
 use crate::factors::load_factors;
 use crate::status::Status;
 use crate::tables::load_corrections;
-use crate::unbuilt::asks_unbuilt;
 use ewald_table::Table;
 use expansion_table::Expansion;
 use output_schedule::{OutputErr, read_outputs};
@@ -72,11 +71,10 @@ fn params_of(alloc: Global, bytes: &[u8]) -> Result<Params, Status>
     }
 }
 
-// Reads a parameter file that asks for nothing but what is built.
+// Reads a parameter file.
 fn load_params<S: Store>(alloc: Global, store: &mut S, name: &Text) -> Result<Params, Status>
     ensures keeps { KeepsFiles S.Store store.old store.new }
     ensures ok { IfOk result (λ p. Tells S.Store store.old → NamesParams (S.file store.old) name.now p) }
-    ensures built { IfOk result (λ p. asks_unbuilt p ≡ false) }
     ensures quiet { OnOk result (IsQuiet S.Store store.old store.new) }
     ensures err { IfErr result (ParamRefusal (seen_by S.Store store.old store.new) name.now) }
 {
@@ -84,14 +82,7 @@ fn load_params<S: Store>(alloc: Global, store: &mut S, name: &Text) -> Result<Pa
         Ok(bytes) => bytes,
         Err(status) => return Err(status),
     };
-    let params = match params_of(alloc, &bytes) {
-        Ok(params) => params,
-        Err(status) => return Err(status),
-    };
-    if asks_unbuilt(&params) {
-        return Err(Status::NotBuilt);
-    }
-    Ok(params)
+    params_of(alloc, &bytes)
 }
 
 // The times that bytes spell.

@@ -3,13 +3,19 @@
 #![tactic(auto)]
 
 mod begins;
+mod catalogue_texts;
+mod catalogues;
 mod command;
 mod factors;
+mod grouping;
 mod inputs;
 mod laws;
+mod link_texts;
+mod linking;
 mod look;
 mod look_texts;
 mod make;
+mod named_file;
 mod outcome;
 mod restart_texts;
 mod restarts;
@@ -21,7 +27,6 @@ mod status;
 mod tables;
 mod texts;
 mod top;
-mod unbuilt;
 
 use fixed_point::Memory;
 use std::env;

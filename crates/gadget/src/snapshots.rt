@@ -7,7 +7,6 @@ ghost use Rattle.gadget.specs.Snapshots.{NamesBodies, NamesSnapshot, SnapshotRef
 
 use crate::inputs::read_file;
 use crate::status::Status;
-use param_file::Params;
 use particle_set::{BodySet, SetErr};
 use snap_file::{Head, SnapErr, read_head, read_snapshot};
 use std::alloc::Global;
@@ -74,18 +73,14 @@ pub fn load_snapshot<S: Store>(
     }
 }
 
-/// Reads the bodies of the snapshot that a parameter file names.
-pub fn load_bodies<S: Store>(
-    alloc: Global,
-    store: &mut S,
-    params: &Params,
-) -> Result<BodySet, Status>
+/// Reads the bodies of a snapshot.
+pub fn load_bodies<S: Store>(alloc: Global, store: &mut S, name: &Text) -> Result<BodySet, Status>
     ensures keeps { KeepsFiles S.Store store.old store.new }
-    ensures ok { IfOk result (λ B. Tells S.Store store.old → NamesBodies (S.file store.old) params.now.init_cond_file B) }
+    ensures ok { IfOk result (λ B. Tells S.Store store.old → NamesBodies (S.file store.old) name.now B) }
     ensures quiet { OnOk result (IsQuiet S.Store store.old store.new) }
-    ensures err { IfErr result (SnapshotRefusal (seen_by S.Store store.old store.new) params.now.init_cond_file) }
+    ensures err { IfErr result (SnapshotRefusal (seen_by S.Store store.old store.new) name.now) }
 {
-    let bytes = match read_file(alloc, store, &params.init_cond_file, LONGEST_SNAPSHOT) {
+    let bytes = match read_file(alloc, store, name, LONGEST_SNAPSHOT) {
         Ok(bytes) => bytes,
         Err(status) => return Err(status),
     };

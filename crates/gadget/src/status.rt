@@ -4,6 +4,7 @@ ghost use Rattle.gadget.specs.Codes.{code_of};
 
 use ewald_table::TableErr;
 use expansion_table::ExpErr;
+use group_file::GroupErr;
 use output_schedule::OutputErr;
 use param_file::{ParamErr, ParamName};
 use restart_files::RestartErr;
@@ -34,7 +35,6 @@ pub enum Status {
         name: Text,
         len: u64,
     },
-    NotBuilt,
     Param(ParamErr),
     Outputs(OutputErr),
     Table(TableErr),
@@ -43,6 +43,10 @@ pub enum Status {
     Restart(RestartErr),
     Differs {
         name: ParamName,
+    },
+    Catalogue {
+        name: Text,
+        kind: GroupErr,
     },
     MomRange {
         tick: u64,
@@ -70,7 +74,6 @@ impl Status {
             Status::ConsoleFault => 6,
             Status::Absent { .. } => 7,
             Status::TooLong { .. } => 8,
-            Status::NotBuilt => 9,
             Status::Param(_) => 10,
             Status::Outputs(_) => 11,
             Status::Table(_) => 12,
@@ -78,6 +81,7 @@ impl Status {
             Status::Restart(_) => 14,
             Status::Differs { .. } => 15,
             Status::Expansion(_) => 16,
+            Status::Catalogue { .. } => 18,
             Status::MomRange { .. } => 20,
             Status::StepRange { .. } => 21,
         }

@@ -3,6 +3,7 @@ ghost use Rattle.std.specs.Prelude.{◌≡◌, ◌++◌, IfOk, OnOk};
 ghost use Rattle.nbody_model.specs.Bodies.{vector};
 ghost use Rattle.gadget.specs.Texts.{spaced, counted, vector_text, kind_text, param_text, list_text, table_text, expansion_text, status_words, status_text, IsNotMissing};
 
+use crate::catalogue_texts::push_catalogue_fault;
 use crate::restart_texts::push_restart_err;
 use crate::snap_texts::push_snap_err;
 use crate::status::Status;
@@ -18,7 +19,7 @@ use store_io::Text;
 use text_words::{push_spaced, push_spaced_signed, push_unsigned};
 
 const USAGE: &[u8] =
-    b"usage: gadget run PARAM RANKS | resume PARAM RESTART RANKS | check PARAM | show SNAP | make COUNT SEED NAME";
+    b"usage: gadget run PARAM RANKS | resume PARAM RESTART RANKS | check PARAM | show SNAP | make COUNT SEED NAME | groups SNAP LINK MIN NAME | links FIRST SECOND NAME";
 
 /// Puts some words and a number behind a line.
 pub fn push_counted(line: &mut Vec<u8>, words: &[u8], n: u128) -> Result<(), Memory>
@@ -203,7 +204,6 @@ fn push_status(line: &mut Vec<u8>, status: &Status) -> Result<(), Memory>
         Status::Done | Status::Stopped { .. } | Status::ConsoleFault => Ok(()),
         Status::Usage => Ok(line.extend_from_slice(USAGE)?),
         Status::Memory => Ok(line.extend_from_slice(b"no memory")?),
-        Status::NotBuilt => Ok(line.extend_from_slice(b"not built")?),
         Status::ReadFault { name } => push_name(line, b"read fault ", name.bytes()),
         Status::WriteFault { name } => push_name(line, b"write fault ", name.bytes()),
         Status::Absent { name } => push_name(line, b"absent ", name.bytes()),
@@ -215,6 +215,7 @@ fn push_status(line: &mut Vec<u8>, status: &Status) -> Result<(), Memory>
         Status::Snapshot(err) => push_snapshot_fault(line, err),
         Status::Restart(err) => push_restart_fault(line, err),
         Status::Differs { name } => push_name(line, b"differs ", name.as_bytes()),
+        Status::Catalogue { name, kind } => push_catalogue_fault(line, name, *kind),
         Status::MomRange {
             tick,
             bin,

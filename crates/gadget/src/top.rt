@@ -2,9 +2,11 @@
 ghost use Rattle.std.specs.Prelude.{◌≡◌, IfOk};
 ghost use Rattle.gadget.specs.Commands.{asked};
 ghost use Rattle.gadget.specs.Outcomes.{status_of, text_of};
-ghost use Rattle.gadget.specs.Answers.{Does, Ends, Prints, console, edge_by, world};
+ghost use Rattle.gadget.specs.Answers.{Does, Ends, Prints, console, edge_by, said_by};
 
 use crate::command::{Command, command_of};
+use crate::grouping::{group_bodies, grouped_line};
+use crate::linking::{link_groups, linked_line};
 use crate::look::{check, show};
 use crate::look_texts::{check_line, show_lines};
 use crate::make::{made_line, make};
@@ -18,37 +20,38 @@ use std::alloc::Global;
 use store_io::{IoErr, Schedule, Sink, Stopper, Store, Text};
 
 // Does what the words ask for.
-fn perform<S: Store, Q: Stopper>(
+fn perform<S: Store, K: Schedule, Q: Stopper>(
     alloc: Global,
     words: &[Text],
     store: &mut S,
+    order: &mut K,
     stop: &mut Q,
 ) -> Outcome
     ensures tells { S.tells store.new ≡ S.tells store.old }
-    ensures does { Does (asked words.now) (S.tells store.old) (world S.Store Q.Stopper store.old stop.old)
-        (world S.Store Q.Stopper store.new stop.new) result }
+    ensures does { Does (asked words.now) (edge_by S.Store K.Schedule Q.Stopper store.old order.old stop.old store.new order.new stop.new) result }
 {
     match command_of(words) {
         Command::Nothing => Outcome::Refused(Status::Usage),
-        Command::Run { param, ranks } => {
-            if ranks != 1 {
-                return Outcome::Refused(Status::NotBuilt);
-            }
-            run(alloc, param, store, stop)
-        }
+        Command::Run { param, ranks } => run(alloc, param, ranks, store, order, stop),
         Command::Resume {
             param,
             restart,
             ranks,
-        } => {
-            if ranks != 1 {
-                return Outcome::Refused(Status::NotBuilt);
-            }
-            resume(alloc, param, restart, store, stop)
-        }
+        } => resume(alloc, param, restart, ranks, store, order, stop),
         Command::Check { param } => check(alloc, store, param),
         Command::Show { snapshot } => show(alloc, store, snapshot),
         Command::Make { count, seed, name } => make(alloc, store, count, seed, name),
+        Command::Groups {
+            snapshot,
+            reach,
+            least,
+            name,
+        } => group_bodies(alloc, store, snapshot, reach, least, name),
+        Command::Links {
+            first,
+            second,
+            name,
+        } => link_groups(alloc, store, first, second, name),
     }
 }
 
@@ -61,6 +64,8 @@ fn lines_of(alloc: Global, outcome: &Outcome) -> Result<Vec<u8>, Memory>
         Outcome::Checked { set } => check_line(alloc, set),
         Outcome::Shown { head, set } => show_lines(alloc, head, set),
         Outcome::Made { count, name } => made_line(alloc, *count, name),
+        Outcome::Grouped { groups, members } => grouped_line(alloc, *groups, *members),
+        Outcome::Linked { count } => linked_line(alloc, *count),
         Outcome::Refused(status) => status_line(alloc, status),
     }
 }
@@ -71,7 +76,11 @@ fn status_of(outcome: Outcome) -> Status
 {
     match outcome {
         Outcome::Ran { ended, .. } => run_status(ended),
-        Outcome::Checked { .. } | Outcome::Shown { .. } | Outcome::Made { .. } => Status::Done,
+        Outcome::Checked { .. }
+        | Outcome::Shown { .. }
+        | Outcome::Made { .. }
+        | Outcome::Grouped { .. }
+        | Outcome::Linked { .. } => Status::Done,
         Outcome::Refused(status) => status,
     }
 }
@@ -102,15 +111,15 @@ pub fn gadget<S: Store, K: Schedule, Q: Stopper, O: Sink>(
     alloc: Global,
     words: &[Text],
     store: &mut S,
-    _order: &mut K,
+    order: &mut K,
     stop: &mut Q,
     out: &mut O,
 ) -> Status
     ensures tells { S.tells store.new ≡ S.tells store.old }
-    ensures ends { Ends (asked words.now) (edge_by S.Store Q.Stopper store.old stop.old store.new stop.new)
-        (console O.Sink out.old) (console O.Sink out.new) result }
+    ensures ends { Ends (asked words.now) (edge_by S.Store K.Schedule Q.Stopper store.old order.old stop.old store.new order.new stop.new)
+        (said_by O.Sink out.old out.new) result }
 {
-    let outcome = perform(alloc, words, store, stop);
+    let outcome = perform(alloc, words, store, order, stop);
     tell(alloc, outcome, out)
 }
 

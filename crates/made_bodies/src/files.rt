@@ -59,8 +59,8 @@ fn settings_file(alloc: Global, name: &Text) -> Result<MadeFile, Memory>
     })
 }
 
-// Makes a file, writes it and finishes it.
-fn put_file<S: Store>(store: &mut S, name: &Text, text: &[u8]) -> Result<(), IoErr>
+/// Makes a file, writes it and finishes it. On an error it is as it was or holds a first part of the text.
+pub fn put_file<S: Store>(store: &mut S, name: &Text, text: &[u8]) -> Result<(), IoErr>
     ensures tells { S.tells store.new ≡ S.tells store.old }
     ensures ok { OnOk result (Puts S.Store store.old store.new name.now text.now) }
     ensures closed { OnOk result (Tells S.Store store.old → S.closed store.new ≡ S.closed store.old ++ name.now ∷ []) }

@@ -7,7 +7,7 @@ mod files;
 mod settings;
 
 pub use bodies::draw_bodies;
-pub use files::{MakeErr, make};
+pub use files::{MakeErr, make, put_file};
 pub use settings::settings_text;
 
 #[cfg(test)]

@@ -12,7 +12,7 @@ use Rattle.chain_laws.proofs.Chains.{first_ready, chains_go_on}
 use Rattle.restart_chain_laws.specs.ChainFiles.{IsChain, ChainFilesAreRead, ChainFilesGoOn}
 use Rattle.restart_chain_laws.proofs.Kept.{StandsLast, resumed_keeps, last_stands}
 
-chain_stands : (plan : Plan) (σ τ : StateData) (ls : List Link) → IsSetup plan.rules.gravity.setup → IsChain plan σ τ ls → StandsLast plan σ.bodies (last_state τ ls)
+pub chain_stands : (plan : Plan) (σ τ : StateData) (ls : List Link) → IsSetup plan.rules.gravity.setup → IsChain plan σ τ ls → StandsLast plan σ.bodies (last_state τ ls)
 chain_stands plan σ τ ls h k =
     let s = plan.rules.gravity.setup in
     let f = k.first in

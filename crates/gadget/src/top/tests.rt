@@ -3,10 +3,12 @@ use fixed_point::Memory;
 use std::test::Fail;
 use store_io::{LastSchedule, MemSink, MemStore, NeverStop};
 
+mod catalogues;
 mod cuts;
 mod forces;
 mod inputs;
 mod makes;
+mod ranks;
 mod runs;
 mod stops;
 
@@ -136,12 +138,23 @@ fn say<Q: Stopper>(
     store: &mut MemStore,
     stop: &mut Q,
 ) -> Result<Said, Memory> {
+    say_by(alloc, words, store, &mut LastSchedule, stop)
+}
+
+// The same, by a schedule.
+fn say_by<K: Schedule, Q: Stopper>(
+    alloc: Global,
+    words: &[&str],
+    store: &mut MemStore,
+    order: &mut K,
+    stop: &mut Q,
+) -> Result<Said, Memory> {
     let mut texts = Vec::new(alloc);
     for word in words {
         texts.push(text(alloc, word.as_bytes())?)?;
     }
     let mut sink = MemSink::new(alloc);
-    let status = gadget(alloc, &texts, store, &mut LastSchedule, stop, &mut sink);
+    let status = gadget(alloc, &texts, store, order, stop, &mut sink);
     let line = Vec::from_slice(alloc, sink.bytes())?;
     Ok(Said {
         code: status.code(),

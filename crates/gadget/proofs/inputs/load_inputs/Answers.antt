@@ -11,7 +11,7 @@ returns-in-Err-load_corrections-clause-err g c =
     table_refused (S.tells start) (S.tells one) (S.tells two) (S.file start) (S.file one) (S.file two) (S.faults start) (S.faults one) (S.faults two) (S.faults three) (S.last three)
     c.args.name.now c.in-Ok.params c.in-Ok-load_outputs.outputs.items c.in-Err-load_corrections.status
     c.in-Ok.ensures.keeps.tells c.in-Ok-load_outputs.ensures.keeps.tells c.in-Ok.ensures.keeps.files c.in-Ok-load_outputs.ensures.keeps.files c.in-Ok.ensures.quiet.0 c.in-Ok-load_outputs.ensures.quiet.0
-    c.in-Ok.ensures.ok c.in-Ok.ensures.built c.in-Ok-load_outputs.ensures.ok c.in-Err-load_corrections.ensures.err
+    c.in-Ok.ensures.ok c.in-Ok-load_outputs.ensures.ok c.in-Err-load_corrections.ensures.err
 
 pub returns-in-Err-load_factors-clause-err : goal.returns-in-Err-load_factors-clause-err
 returns-in-Err-load_factors-clause-err g c =
@@ -27,4 +27,4 @@ returns-in-Err-load_factors-clause-err g c =
     c.in-Ok.ensures.keeps.tells c.in-Ok-load_outputs.ensures.keeps.tells c.in-Ok-load_corrections.ensures.keeps.tells
     c.in-Ok.ensures.keeps.files c.in-Ok-load_outputs.ensures.keeps.files c.in-Ok-load_corrections.ensures.keeps.files
     c.in-Ok.ensures.quiet.0 c.in-Ok-load_outputs.ensures.quiet.0 c.in-Ok-load_corrections.ensures.quiet.0
-    c.in-Ok.ensures.ok c.in-Ok.ensures.built c.in-Ok-load_outputs.ensures.ok c.in-Ok-load_corrections.ensures.ok c.in-Err-load_factors.ensures.err
+    c.in-Ok.ensures.ok c.in-Ok-load_outputs.ensures.ok c.in-Ok-load_corrections.ensures.ok c.in-Err-load_factors.ensures.err

@@ -1,4 +1,4 @@
-use Rattle.gadget.proofs.OneAnswer.{answers_exact}
+use Rattle.gadget.proofs.OneCall.{answers_exact}
 use Rattle.gadget.proofs.laws.answers_are_exact.Goals as goal
 
 pub returns : goal.returns

@@ -2,10 +2,10 @@
 use super::*;
 
 // A parameter file of one base step, but for the opening angle.
-const HEAVY: &str =
+pub const HEAVY: &str =
     "InitCondFile ics.dat\nSnapshotFileBase snapshot\nLowBin 1\nTopBin 1\nGravityConstantInternal 4294967296\nVelocityShift 20\nErrTolIntAccuracy 65536\nTimeMax 2\nErrTolTheta ";
 
-fn heavy(id: u64, position: [u32; 3], momentum: [i64; 3]) -> Placed {
+pub fn heavy(id: u64, position: [u32; 3], momentum: [i64; 3]) -> Placed {
     Placed {
         id,
         mass: 1048576,

@@ -6,11 +6,6 @@ fn parameters_are_answered(rt: HostRuntime) -> Result<(), Fail> {
     let alloc = rt.alloc();
     let cases = [
         (
-            "VelocityShift 20\nErrTolIntAccuracy 65536\nTimeMax 2\nRankTrace 1",
-            9,
-            "not built\n",
-        ),
-        (
             "VelocityShift 20\nGravity 5\nTimeMax 2",
             10,
             "parameter line 8 unknown\n",
@@ -55,22 +50,18 @@ fn clashing_names_are_refused(rt: HostRuntime) -> Result<(), Fail> {
 fn words_and_files_are_answered(rt: HostRuntime) -> Result<(), Fail> {
     let alloc = rt.alloc();
     let usage =
-        "usage: gadget run PARAM RANKS | resume PARAM RESTART RANKS | check PARAM | show SNAP | make COUNT SEED NAME\n";
+        "usage: gadget run PARAM RANKS | resume PARAM RESTART RANKS | check PARAM | show SNAP | make COUNT SEED NAME | groups SNAP LINK MIN NAME | links FIRST SECOND NAME\n";
     let cases: [(&[&str], u8, &str); 14] = [
         (&[], 2, usage),
         (&["run", "param.txt", "0"], 2, usage),
         (&["run", "param.txt", "257"], 2, usage),
         (&["make", "1", "x", "c"], 2, usage),
-        (&["run", "param.txt", "2"], 9, "not built\n"),
+        (&["run", "param.txt", "x"], 2, usage),
         (&["show", "nothing"], 7, "absent nothing\n"),
         (&["resume", "param.txt", "restart_000", "0"], 2, usage),
         (&["resume", "param.txt", "", "1"], 2, usage),
         (&["resume", "param.txt", "restart_000"], 2, usage),
-        (
-            &["resume", "param.txt", "restart_000", "2"],
-            9,
-            "not built\n",
-        ),
+        (&["resume", "param.txt", "restart_000", "257"], 2, usage),
         (
             &["resume", "nothing", "restart_000", "1"],
             7,

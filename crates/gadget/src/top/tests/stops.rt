@@ -3,8 +3,8 @@ use super::runs::{FOUR_DONE, LIST, TWO_DONE, four_steps, two_bins, two_bins_end}
 use super::*;
 use store_io::StopAfter;
 
-/// Goes on from the first restart file.
-pub const RESUME: [&str; 4] = ["resume", "param.txt", "restart_000", "1"];
+/// Goes on from the first restart file, by more ranks than there were.
+pub const RESUME: [&str; 4] = ["resume", "param.txt", "restart_000", "5"];
 
 // Numbers of 64 bits, one behind the other.
 fn push_numbers(out: &mut Vec<u8>, numbers: &[u64]) -> Result<(), Memory> {
@@ -98,17 +98,17 @@ fn four_base_steps_are_resumed_from_each_stop(rt: HostRuntime) -> Result<(), Fai
     let last = text(alloc, b"snapshot_003")?;
     let end = whole.get(&last).ok_or("no snapshot")?;
     let cases = [
-        (1, "stopped steps 1\n", "restart_000"),
-        (2, "stopped steps 2\n", "restart_000"),
-        (3, "stopped steps 3\n", "restart_001"),
+        (1, "stopped steps 1\n", "restart_000", "2"),
+        (2, "stopped steps 2\n", "restart_000", "3"),
+        (3, "stopped steps 3\n", "restart_001", "9"),
     ];
-    for (stop, want, restart) in cases {
+    for (stop, want, restart, ranks) in cases {
         let mut store = four_steps(alloc, LIST)?;
         let said = say(alloc, &RUN, &mut store, &mut StopAfter::new(stop))?;
         assert_eq!(rt; said.code, 1, "at {want}");
         assert!(rt; said.line.as_slice() == want.as_bytes(), "at {want}");
         assert!(rt; !stands(alloc, &store, "snapshot_003")?, "at {want}");
-        let words = ["resume", "param.txt", restart, "1"];
+        let words = ["resume", "param.txt", restart, ranks];
         assert!(rt; says(alloc, &words, &mut store, 0, FOUR_DONE)?, "at {want}");
         assert!(rt; holds(alloc, &store, "snapshot_003", end)?, "at {want}");
     }
