@@ -3,17 +3,17 @@
 
     tests/compare.py [--seed N] [--count N] [--jobs N] [--kinds KIND,..] OTHER..
 
-The kinds are forces, bins, tables, expansions, parameters, lists, snapshots, runs, restarts, sessions and made; without
-`--kinds` all of them. OTHER.. is the command line of the other program, behind `--` where it has options; the words
+The kinds are forces, bins, tables, expansions, parameters, lists, snapshots, runs, groups, links, restarts, sessions and
+made; without `--kinds` all of them. OTHER.. is the command line of the other program, behind `--` where it has options; the words
 of a case are put behind it. Each case is made from the seed and its number: some files, whose bodies are of the kinds
 1 to 5, and some words. Both programs are run on them in folders of their own, and their status, what they print and
-all files that they leave are compared. Of a usage line the other program's may go on with more commands. A case of
+all files that they leave are compared. The other program's usage line may have more commands. A case of
 `sessions` has many calls: a run unbroken, the same run stopped at each of its questions in turn, and a resumed run
 from each restart file; resumed runs are compared with the unbroken one too. A case of `made` makes bodies, looks at both
 files, and runs them where they are few. One case of `restarts` in 300 has a call
 for each length to which a restart file can be cut.
-Each difference is printed with the case's folder, which is then kept. A case that `gadget` answers `not built` is
-counted apart. The last line tells the numbers; the exit status is 0 where nothing differs.
+A run, and a resumed one, is made by 1 to 9 ranks, drawn for each call; sessions are traced in half of the cases.
+Each difference is printed with the case's folder, which is then kept. The last line tells the numbers; the exit status is 0 where nothing differs.
 """
 import argparse
 import concurrent.futures
@@ -26,7 +26,7 @@ import sys
 import tempfile
 
 TOP = os.path.dirname(os.path.dirname(os.path.abspath(__file__)))
-STOPPED, USAGE, NOT_BUILT = 1, 2, 9
+STOPPED, USAGE = 1, 2
 RUN = ["run", "param.txt", "1"]
 
 ROWS = [
@@ -381,6 +381,94 @@ def tables(rng):
     return files, rng.choice([RUN, ["check", "param.txt"]])
 
 
+# ---- groups and links
+
+def grouped_bodies(rng):
+    """Bodies in chains of about a link, some round the edge of the box, and the length of a link."""
+    link = rng.choice([0, 1, 3, 100, 2**20, 2**29, 2**30])
+    ids = rng.sample(range(1, 200), rng.choice([0, 1, 2, 5, rng.randint(1, 60)]))
+    pos = [rng.choice([0, 1, 2**31, 2**32 - 1, 2**32 - link // 2 - 1, rng.randrange(2**32)]) for _ in range(3)]
+    bodies = []
+    for i in ids:
+        if rng.random() < 0.15:
+            pos = [rng.randrange(2**32) for _ in range(3)]
+        way = [0, 0, 0]
+        way[rng.randrange(3)] = link + rng.choice([-1, 0, 0, 0, 1])
+        if rng.random() < 0.3:
+            way = [rng.randrange(link + 1) for _ in range(3)]
+        pos = [(x + rng.choice([1, -1]) * w) % 2**32 for x, w in zip(pos, way)]
+        bodies.append(dict(id=i, kind=some_kind(rng), mass=rng.randint(1, 2**20), pos=pos, mom=[0, 0, 0]))
+    return bodies, link
+
+
+def groups(rng):
+    bodies, link = grouped_bodies(rng)
+    data = snapshot(bodies, rng.choice([0, 5]))
+    if rng.random() < 0.3:
+        try:
+            data = bad_snapshot(rng, data)
+        except (struct.error, KeyError, IndexError, ValueError):
+            data = flip(rng, data)
+    words = ["groups", "s", str(link), str(rng.choice([1, 1, 2, 2, 3, 10, 1048576])), "g"]
+    if rng.random() < 0.2:
+        at = rng.randrange(1, 5)
+        words[at] = rng.choice([around(rng, 0, 2**30), around(rng, 1, 1048576), odd_number(rng)] if at in (2, 3)
+                               else ["", "absent", "n" * 200, "n" * 201, "n" * 221, "n" * 222, "a b", "s", "g"])
+    if rng.random() < 0.05:
+        words = rng.choice([words[:4], words + ["x"], ["Groups"] + words[1:]])
+    return {"s": data, "g": rng.choice([b"", b"old"])}, words
+
+
+def catalogue(groups):
+    text = b"I4GROUPS" + struct.pack("<II", len(groups), 0)
+    return text + b"".join(struct.pack("<3Q", group[0], 7 * len(group), len(group)) + struct.pack("<%dQ" % len(group), *group) for group in groups)
+
+
+def some_groups(rng, ids):
+    """Some of the ids, parted into groups."""
+    groups = {}
+    for i in rng.sample(ids, rng.randint(0, len(ids))):
+        groups.setdefault(rng.randrange(rng.choice([1, 3, 8])), []).append(i)
+    return sorted(sorted(group) for group in groups.values())
+
+
+def bad_catalogue(rng, groups):
+    kind = rng.randrange(7)
+    data = catalogue(groups)
+    if kind == 0 or not groups:
+        return data[:rng.choice([rng.randrange(len(data) + 1), 7, 8, 15, 16, len(data) - 1])]
+    if kind == 1:
+        return flip(rng, data)
+    if kind == 2:
+        return data + bytes(rng.choice([1, 8, 24, 32]))
+    if kind == 3:
+        return data[:8] + struct.pack("<II", rng.choice([0, len(groups) - 1, len(groups) + 1, 2**32 - 1]), rng.randrange(2**32)) + data[16:]
+    groups = [list(group) for group in groups]
+    group = rng.choice(groups)
+    if kind == 4:
+        group.append(rng.choice([i for other in groups for i in other]))
+    elif kind == 5:
+        group[rng.randrange(len(group))] = rng.choice([0, 2**64 - 1, rng.randrange(100), group[0]])
+    else:
+        rng.shuffle(groups)
+    return catalogue([group if kind == 6 or rng.random() < 0.2 else sorted(group) for group in groups])
+
+
+def links(rng):
+    least = rng.choice([0, 1, 2**32, 2**64 - 60])
+    ids = rng.sample(range(least, least + 60), rng.choice([0, 1, 3, 12, 40]))
+    both = [some_groups(rng, ids), some_groups(rng, ids)]
+    data = [catalogue(groups) for groups in both]
+    for at in rng.choice([[], [], [], [0], [1], [0, 1]]):
+        data[at] = bad_catalogue(rng, both[at])
+    words = ["links", "first", rng.choice(["second", "second", "second", "first"]), "n"]
+    if rng.random() < 0.1:
+        words[rng.randrange(1, 4)] = rng.choice(["", "absent", "n" * 200, "n" * 201, "a b", "first", "second"])
+    if rng.random() < 0.03:
+        words = rng.choice([words[:3], words + ["x"], ["Links"] + words[1:]])
+    return {"first": data[0], "second": data[1]}, words
+
+
 # ---- restart files
 
 def paces(rng, bodies, bin_):
@@ -557,7 +645,8 @@ def session(rng):
     if rng.random() < 0.1:
         put_on_edge(rng, bodies)
     changes = [("TimeMax", time_max), ("LowBin", low), ("TopBin", top), ("ErrTolTheta", rng.choice([0, 128, 256])), ("ErrTolIntAccuracy", accuracy),
-               ("VelocityShift", shift), ("GravityConstantInternal", gravity), ("RestartEvery", rng.randint(0, 3))]
+               ("VelocityShift", shift), ("GravityConstantInternal", gravity), ("RestartEvery", rng.randint(0, 3)),
+               ("RankTrace", rng.randint(0, 1)), ("DeliverySeed", rng.choice([0, 1, 42, 2**64 - 1]))]
     files = {"ics.dat": snapshot(bodies)}
     for name, file_name, data in [("ExpansionTableFile", "expansion.dat", expansion(rng, -(-time_max // unit) * unit)),
                                   ("EwaldTableFile", "table.dat", table(rng)), ("BinFile", "bins.dat", None), ("OutputListFilename", "outputs.txt", ticks(rng, time_max, unit))]:
@@ -651,7 +740,8 @@ def made_case(rng, both):
 
 
 # Of a staged kind a case makes its own calls; of the others it is one call.
-KINDS = {"forces": forces, "bins": bins, "tables": tables, "expansions": expansions, "parameters": parameters, "lists": lists, "snapshots": snapshots, "runs": runs}
+KINDS = {"forces": forces, "bins": bins, "tables": tables, "expansions": expansions, "parameters": parameters, "lists": lists, "snapshots": snapshots, "runs": runs,
+         "groups": groups, "links": links}
 STAGED = {"restarts": restarts_case, "sessions": sessions_case, "made": made_case}
 
 
@@ -665,17 +755,30 @@ def files_in(folder):
     return left
 
 
+def on_some_ranks(rng, words):
+    """The words of a run on one rank, on 1 to 9."""
+    if words[:1] in (["run"], ["resume"]) and words[-1] == "1":
+        return words[:-1] + [str(rng.choice([1, 2, 3, rng.randint(1, 9)]))]
+    return words
+
+
 def is_same(mine, theirs):
-    """Equal statuses, outputs and files; the other program's usage line may go on with more commands."""
-    is_usage = mine[0] == USAGE and theirs[1].startswith(mine[1].rstrip(b"\n") + b" |")
+    """Equal statuses, outputs and files; the other program's usage line may have more commands."""
+    is_usage = mine[0] == USAGE and has_commands(theirs[1].rstrip(b"\n").split(b" | "), mine[1].rstrip(b"\n").split(b" | "))
     return mine[0] == theirs[0] and mine[2] == theirs[2] and (mine[1] == theirs[1] or is_usage)
+
+
+def has_commands(more, commands):
+    """All of the commands are among more, in their order."""
+    left = iter(more)
+    return all(command in left for command in commands)
 
 
 class Both:
     """Both programs, each in a folder of its own that goes on from call to call, and what was found."""
 
-    def __init__(self, other, folder, found=None):
-        self.other, self.folder = other, folder
+    def __init__(self, other, folder, rng, found=None):
+        self.other, self.folder, self.rng = other, folder, rng
         self.folders = [os.path.join(folder, name) for name in ("gadget", "other")]
         found = found or self
         if found is self:
@@ -684,7 +787,7 @@ class Both:
             self.statuses, self.wrong = found.statuses, found.wrong
 
     def beside(self, name):
-        return Both(self.other, os.path.join(self.folder, name), self)
+        return Both(self.other, os.path.join(self.folder, name), self.rng, self)
 
     def fill(self, files):
         for folder in self.folders:
@@ -695,7 +798,7 @@ class Both:
         return self
 
     def copy(self, name, wanted):
-        again = Both(self.other, self.folder + "-" + name, self)
+        again = Both(self.other, self.folder + "-" + name, self.rng, self)
         for source, target in zip(self.folders, again.folders):
             os.makedirs(target)
             for file in filter(wanted, os.listdir(source)):
@@ -710,13 +813,13 @@ class Both:
 
     def call(self, words):
         """What `gadget` answers and leaves; where the other program does otherwise, that is noted."""
+        words = on_some_ranks(self.rng, words)
         mine = answer([os.path.join(TOP, "gadget")], words, self.folders[0])
         self.statuses.append(mine[0])
-        if mine[0] != NOT_BUILT:
-            theirs = answer(self.other, words, self.folders[1])
-            if not is_same(mine, theirs):
-                files = [name for name in set(mine[2]) | set(theirs[2]) if mine[2].get(name) != theirs[2].get(name)]
-                self.wrong.append("%s: %r against %r, files %s" % (" ".join(words), mine[:2], theirs[:2], files))
+        theirs = answer(self.other, words, self.folders[1])
+        if not is_same(mine, theirs):
+            files = [name for name in set(mine[2]) | set(theirs[2]) if mine[2].get(name) != theirs[2].get(name)]
+            self.wrong.append("%s: %r against %r, files %s" % (" ".join(words), mine[:2], theirs[:2], files))
         return mine
 
     def once(self, files, words):
@@ -731,7 +834,7 @@ def answer(command, words, folder):
 def case(kind, seed, number, other):
     rng = random.Random("%s %d %d" % (kind, seed, number))
     folder = tempfile.mkdtemp(prefix="gadget-compare-")
-    both = Both(other, folder)
+    both = Both(other, folder, rng)
     if kind in STAGED:
         STAGED[kind](rng, both)
     else:
@@ -760,8 +863,7 @@ def main():
             for what in wrong:
                 print("%s %d differs in %s: %s" % (kind, number, folder, what), flush=True)
     told = ", ".join("%d: %d" % pair for pair in sorted(statuses.items()))
-    print("%d cases of %d calls, %d differ, %d calls not built; by status %s"
-          % (len(waiting), sum(statuses.values()), different, statuses.get(NOT_BUILT, 0), told))
+    print("%d cases of %d calls, %d differ; by status %s" % (len(waiting), sum(statuses.values()), different, told))
     return 1 if different else 0
 
 

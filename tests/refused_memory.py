@@ -18,7 +18,7 @@ import sys
 import tempfile
 
 sys.dont_write_bytecode = True
-from compare import RUN, TOP, files_in, lines_text, numbered, snapshot  # noqa: E402
+from compare import RUN, TOP, catalogue, files_in, lines_text, numbered, snapshot  # noqa: E402
 
 LIBRARY = r"""
 #include <stddef.h>
@@ -70,6 +70,7 @@ TWO_BODIES = pair("TimeMax 2", "LowBin 1", "TopBin 1", "ErrTolTheta 0", "ErrTolI
 BINS = ["TimeMax 4", "LowBin 1", "TopBin 2", "ErrTolTheta 0", "ErrTolIntAccuracy 65536", "VelocityShift 4"]
 FOUR_STEPS = pair("OutputListFilename outputs.txt", "TimeMax 4000", "LowBin 4", "TopBin 10", "ErrTolTheta 180", "ErrTolIntAccuracy 1638",
                   "VelocityShift 20", "SofteningType1 4096", "RestartEvery 2", "DeliverySeed 42")
+CATALOGUES = {"first": catalogue([[1, 2, 3], [4, 5]]), "second": catalogue([[1, 4, 5], [2, 3]])}
 FOUR_STEPS["outputs.txt"] = lines_text(["1600", "0", "% later ones", "1000 1", "1500", "9000"])
 
 
@@ -123,7 +124,8 @@ def cases(program, library):
     return [("two bodies", TWO_BODIES, RUN), ("two bins", pair(*BINS), RUN), ("two bins and their file", pair(*BINS, "BinFile bins.dat"), RUN),
             ("four base steps", FOUR_STEPS, RUN), ("stopped inside a base step", dict(pair(*BINS), stop=b""), RUN),
             ("resumed inside a base step", stopped, ["resume", "param.txt", "restart_000", "1"]),
-            ("check", FOUR_STEPS, ["check", "param.txt"]), ("show", TWO_BODIES, ["show", "ics.dat"])]
+            ("check", FOUR_STEPS, ["check", "param.txt"]), ("show", TWO_BODIES, ["show", "ics.dat"]),
+            ("groups", TWO_BODIES, ["groups", "ics.dat", "1000", "1", "groups.dat"]), ("links", CATALOGUES, ["links", "first", "second", "links.txt"])]
 
 
 def main():
