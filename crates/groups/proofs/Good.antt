@@ -14,7 +14,7 @@ use Rattle.nbody_model.specs.Bodies.{BodyData, IsValid}
 use Rattle.group_file.specs.Catalogues.{GroupData, IsGroup, IsGood, all_ids, times}
 use Rattle.group_file.proofs.Twice.{times_same, times_other}
 use Rattle.neighbour_find.specs.Near.{nobody}
-use Rattle.groups.specs.Groups.{AreHeads, IsCatalogue, IsHead, catalogue, group_of, has_head, kept, members, web}
+use Rattle.groups.specs.Groups.{AreHeads, IsCatalogue, IsHead, group_of, has_head, kept, members, web}
 use Rattle.groups.proofs.Steps.{joined_self}
 
 -- ---- how often a number stands in a list

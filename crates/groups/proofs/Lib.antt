@@ -1,3 +1,4 @@
+pub mod Chained
 pub mod Classes
 pub mod Good
 pub mod Lists

@@ -1,5 +1,6 @@
 -- The members of groups, place by place.
-use Rattle.std.proofs.Common.{◌≡◌, ℕ, suc, ◌+◌, ◌≤◌, List, [], ◌∷◌, ◌++◌, length, get_or, filter, map, sum_by, cond, refl, ap, sym, ◌∙◌, true, false, Bool, arith}
+use Rattle.std.proofs.Common.{◌≡◌, ℕ, suc, ◌+◌, ◌<◌, ◌≤◌, List, [], ◌∷◌, ◌++◌, length, get_or, take, map, sum_by, cond, ap, sym, ◌∙◌, true, false, Bool, arith}
+use Rattle.std.proofs.Math.Seq.{take-suc}
 use Rattle.std.specs.List.{flat_map, range_with_len}
 use Rattle.std.specs.Prelude.{nat_lt}
 use Rattle.std.proofs.lemmas.List.{append-nil, length-append, map-append}
@@ -8,25 +9,24 @@ use Rattle.std.proofs.lemmas.List.Sums.{sum_by-append}
 use Rattle.nbody_model.specs.Bodies.{BodyData}
 use Rattle.group_file.specs.Catalogues.{GroupData}
 use Rattle.neighbour_find.specs.Near.{nobody}
-use Rattle.groups.specs.Groups.{has_head, group_of, mass_here, members, kept, AreHeads, IsCatalogue, web}
-use Rattle.neighbour_find.proofs.Nears.{filter_more, range_more}
+use Rattle.groups.specs.Groups.{has_head, group_of, members, kept, AreHeads, IsCatalogue, web}
+use Rattle.neighbour_find.proofs.Nears.{range_more}
 
-pub ids_yes : (B : List BodyData) (heads : List ℕ) (p k id : ℕ) (ids : List ℕ) → ids ≡ map (λ k. (get_or B k nobody).id) (filter (has_head heads p) (range_with_len 0 k)) → has_head heads p k ≡ true → (get_or B k nobody).id ≡ id
-    → ids ++ (id ∷ []) ≡ map (λ k. (get_or B k nobody).id) (filter (has_head heads p) (range_with_len 0 (k + 1)))
-ids_yes B heads p k id ids e t i = ap (λ xs. xs ++ (id ∷ [])) e ∙ ap (λ n. map (λ k. (get_or B k nobody).id) (filter (has_head heads p) (range_with_len 0 k)) ++ (n ∷ [])) (sym i) ∙ sym (map-append (λ k. (get_or B k nobody).id) (filter (has_head heads p) (range_with_len 0 k)) (k ∷ [])) ∙ ap (map (λ k. (get_or B k nobody).id)) (sym (filter_more (has_head heads p) k true t))
+pub ids_more : (B : List BodyData) (list : List ℕ) (e d id : ℕ) (ids : List ℕ) → e < length list → ids ≡ map (λ k. (get_or B k nobody).id) (take e list) → id ≡ (get_or B (get_or list e d) nobody).id
+    → ids ++ (id ∷ []) ≡ map (λ k. (get_or B k nobody).id) (take (e + 1) list)
+ids_more B list e d id ids h w i =
+    let up : e + 1 ≡ suc e = omega arith in
+    ap (λ xs. xs ++ (id ∷ [])) w ∙ ap (λ n. map (λ k. (get_or B k nobody).id) (take e list) ++ (n ∷ [])) i ∙ sym (map-append (λ k. (get_or B k nobody).id) (take e list) (get_or list e d ∷ []))
+    ∙ ap (map (λ k. (get_or B k nobody).id)) (sym (ap (λ n. take n list) up ∙ take-suc list e d h))
 
-pub ids_no : (B : List BodyData) (heads : List ℕ) (p k : ℕ) (ids : List ℕ) → ids ≡ map (λ k. (get_or B k nobody).id) (filter (has_head heads p) (range_with_len 0 k)) → has_head heads p k ≡ false
-    → ids ≡ map (λ k. (get_or B k nobody).id) (filter (has_head heads p) (range_with_len 0 (k + 1)))
-ids_no B heads p k ids e t = e ∙ ap (map (λ k. (get_or B k nobody).id)) (sym (append-nil _) ∙ sym (filter_more (has_head heads p) k false t))
+sum_one : (f : ℕ → ℕ) (k : ℕ) → sum_by f (k ∷ []) ≡ f k
+sum_one f k = omega arith
 
-sum_cond : (f : ℕ → ℕ) (k : ℕ) (b : Bool) → sum_by f (cond b (k ∷ []) []) ≡ cond b (f k) 0
-sum_cond f k true = omega arith
-sum_cond f k false = refl
-
-pub mass_more : (B : List BodyData) (heads : List ℕ) (p k mass : ℕ) → mass ≡ sum_by (λ k. (get_or B k nobody).mass) (filter (has_head heads p) (range_with_len 0 k))
-    → mass + mass_here B heads p k ≡ sum_by (λ k. (get_or B k nobody).mass) (filter (has_head heads p) (range_with_len 0 (k + 1)))
-mass_more B heads p k mass e =
-    omega (arith, e, ap (sum_by (λ k. (get_or B k nobody).mass)) (filter_more (has_head heads p) k (has_head heads p k) refl), sum_by-append (λ k. (get_or B k nobody).mass) (filter (has_head heads p) (range_with_len 0 k)) (cond (has_head heads p k) (k ∷ []) []), sum_cond (λ k. (get_or B k nobody).mass) k (has_head heads p k))
+pub mass_more : (B : List BodyData) (list : List ℕ) (e d more mass : ℕ) → e < length list → mass ≡ sum_by (λ k. (get_or B k nobody).mass) (take e list) → more ≡ (get_or B (get_or list e d) nobody).mass
+    → mass + more ≡ sum_by (λ k. (get_or B k nobody).mass) (take (e + 1) list)
+mass_more B list e d more mass h w i =
+    let up : e + 1 ≡ suc e = omega arith in
+    omega (arith, w, i, ap (sum_by (λ k. (get_or B k nobody).mass)) (ap (λ n. take n list) up ∙ take-suc list e d h), sum_by-append (λ k. (get_or B k nobody).mass) (take e list) (get_or list e d ∷ []), sum_one (λ k. (get_or B k nobody).mass) (get_or list e d))
 
 pub kept_more : (least : ℕ) (B : List BodyData) (heads : List ℕ) (p : ℕ) (C : List GroupData) → C ≡ flat_map (kept least B heads) (range_with_len 0 p) → C ++ kept least B heads p ≡ flat_map (kept least B heads) (range_with_len 0 (p + 1))
 kept_more least B heads p C e =

@@ -42,10 +42,6 @@ has_head heads p k = get_or heads k 0 == p
 abbrev pub members : List ℕ → ℕ → List ℕ
 members heads p = filter (has_head heads p) (range_with_len 0 (length heads))
 
--- the mass of a body, if it has a head
-abbrev pub mass_here : List BodyData → List ℕ → ℕ → ℕ → ℕ
-mass_here B heads p k = cond (has_head heads p k) (get_or B k nobody).mass 0
-
 -- the group of a head: its label is the head's id, the least of the group, since bodies ascend in id
 abbrev pub group_of : List BodyData → List ℕ → ℕ → GroupData
 group_of B heads p = record {

@@ -1,3 +1,4 @@
+pub mod Chains
 pub mod Groups
 pub mod Laws
 pub mod Spreading

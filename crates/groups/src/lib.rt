@@ -2,6 +2,7 @@
 #![tactic(auto)]
 
 mod catalogue;
+mod chains;
 mod heads;
 mod laws;
 mod search;
